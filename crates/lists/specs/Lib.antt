@@ -1,0 +1,6 @@
+pub mod Part
+pub mod Fill
+pub mod Shift
+pub mod Map
+pub mod Exact
+pub mod First

@@ -1,0 +1,1 @@
+// No code: what the other crates say of lists, in specs/.

@@ -1,0 +1,5 @@
+pub mod Bytes
+pub mod OrderLaws
+pub mod CommonLaws
+pub mod SeparatorLaws
+pub mod Compared
