@@ -1,3 +1,4 @@
+pub mod All
 pub mod Part
 pub mod Fill
 pub mod Shift

@@ -1,0 +1,13 @@
+pub mod Map
+pub mod Leaves
+pub mod Rules
+pub mod Charge
+pub mod Limits
+pub mod Good
+pub mod Prefix
+pub mod Answers
+pub mod Table
+pub mod MapLaws
+pub mod MapParts
+pub mod MapSame
+pub mod LeafViews

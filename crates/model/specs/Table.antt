@@ -1,0 +1,47 @@
+-- The bench examples A1 to A4 of document 01, and rows that tell the cases of L4 apart: one table, one claim about its rows.
+use Prim.Native.Nat.{ℕ}
+use mathlib.Core.List.{List, [], _∷_}
+use mathlib.Core.Option.{Option, none, some}
+use mathlib.Core.Path.{_≡_, refl}
+use Rattle.lists.specs.All.{All}
+use Rattle.order.specs.Bytes.{Bytes, common, separator}
+use Rattle.model.specs.Leaves.{prefixLength}
+use Rattle.model.specs.Rules.{splitOffset}
+use Rattle.model.specs.Prefix.{prefixEnd}
+
+pub data Row : Type 0 where
+  separators : (left right separator : Bytes) → Row
+  offsets : (n : ℕ) (low : Bytes) (upper : Option Bytes) (offset : ℕ) → Row
+  prefixes : (low : Bytes) (upper : Option Bytes) (prefix : ℕ) → Row
+  ends : (prefix : Bytes) (end : Option Bytes) → Row
+
+abbrev pub Holds : Row → Type 0
+Holds (separators l r s) = separator l r ≡ s
+Holds (offsets n low upper o) = splitOffset n low upper ≡ o
+Holds (prefixes low upper c) = prefixLength low upper ≡ c
+Holds (ends p e) = prefixEnd p ≡ e
+
+abbrev pub table : List Row
+table =
+    separators (0x61 ∷ 0x62 ∷ []) (0x61 ∷ 0x63 ∷ []) (0x61 ∷ 0x63 ∷ [])
+    ∷ separators (0x61 ∷ []) (0x61 ∷ 0x00 ∷ []) (0x61 ∷ 0x00 ∷ [])
+    ∷ separators (0x61 ∷ 0xff ∷ 0xff ∷ []) (0x62 ∷ []) (0x62 ∷ [])
+    ∷ separators [] (0x61 ∷ 0x62 ∷ []) (0x61 ∷ [])
+    ∷ offsets 3 [] none 1
+    ∷ offsets 3 (0x61 ∷ []) none 1
+    ∷ offsets 5 (0x61 ∷ []) (some (0x62 ∷ [])) 2
+    ∷ offsets 5 (0x61 ∷ []) none 3
+    ∷ offsets 5 [] none 1
+    ∷ offsets 5 [] (some (0x62 ∷ [])) 1
+    ∷ prefixes (0x61 ∷ 0x61 ∷ []) (some (0x61 ∷ 0x63 ∷ [])) 1
+    ∷ prefixes (0x61 ∷ []) (some (0x61 ∷ 0x62 ∷ [])) 1
+    ∷ prefixes (0x61 ∷ 0x61 ∷ []) none 0
+    ∷ ends (0x61 ∷ 0xff ∷ []) (some (0x62 ∷ []))
+    ∷ ends (0xff ∷ []) none
+    ∷ ends [] none
+    ∷ []
+
+pub examples : All Holds table
+unfolding separator common prefixEnd
+examples =
+    (refl, (refl, (refl, (refl, (refl, (refl, (refl, (refl, (refl, (refl, (refl, (refl, (refl, (refl, (refl, (refl, tt))))))))))))))))
