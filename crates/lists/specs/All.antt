@@ -41,3 +41,7 @@ module _ {A : Type 0} where
   all-at P [] i d h a = absurd (omega arith)
   all-at P (x ∷ l) zero d h a = a .0
   all-at P (x ∷ l) (suc i) d h a = all-at P l i d (le-of-suc-le-suc h) (a .1)
+
+  pub all-both : (P Q : A → Type 0) (l : List A) → All P l → All Q l → All (λ x. P x × Q x) l
+  all-both P Q [] h k = tt
+  all-both P Q (x ∷ l) h k = ((h .0, k .0), all-both P Q l (h .1) (k .1))

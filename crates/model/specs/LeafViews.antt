@@ -6,6 +6,7 @@ use mathlib.Core.Bool.{Bool, cond, false, true}
 use mathlib.Core.List.{List, [], _∷_}
 use mathlib.Core.Option.{Option, none, some}
 use mathlib.Core.Path.{_≡_, refl, sym}
+use native.Mathlib.Omega.{arith}
 use borrow.Author.Tests.{eq-eqb, ne-eqb}
 use lib.Dec.{eqb}
 use lib.ListN.{length}
@@ -77,13 +78,13 @@ lasting k (p ∷ q ∷ m) = others refl
 -- whether a remove merges
 pub data Removal (merging : Bool) (k : Bytes) (n : Node) (ns : List Node) : Type 0 where
   merges : merging ≡ true → (p : Pair) → n .pairs ≡ p ∷ [] → k ≡ p .key → removeHere merging k n ns ≡ mergeFrom (withPairs n []) ns → Removal merging k n ns
-  stays : removeHere merging k n ns ≡ withPairs n (remove k (n .pairs)) ∷ ns → Removal merging k n ns
+  stays : (merging ≡ true → isLast k (n .pairs) ≡ false) → removeHere merging k n ns ≡ withPairs n (remove k (n .pairs)) ∷ ns → Removal merging k n ns
 
 pub removal : (merging : Bool) (k : Bytes) (n : Node) (ns : List Node) → Removal merging k n ns
 unfolding removeHere
-removal false k n ns = stays refl
+removal false k n ns = stays (λ e. absurd (let z : _≡_ {A = ℕ} 0 1 = cc in omega arith)) refl
 removal true k n ns =
     elim (lasting k (n .pairs)) [
       | last p e f t ↦ merges refl p e f (rw t)
-      | others t ↦ stays (rw t)
+      | others t ↦ stays (λ e. t) (rw t)
     ]

@@ -11,3 +11,10 @@ pub mod MapLaws
 pub mod MapParts
 pub mod MapSame
 pub mod LeafViews
+pub mod OwnerLaws
+pub mod PrefixLaws
+pub mod PairLaws
+pub mod CutLaws
+pub mod TileLaws
+pub mod Place
+pub mod FilledLaws
