@@ -18,3 +18,9 @@ pub mod CutLaws
 pub mod TileLaws
 pub mod Place
 pub mod FilledLaws
+pub mod SplitLaws
+pub mod SplitInsert
+pub mod ScanLaws
+pub mod Walk
+pub mod ClearLaws
+pub mod Runs
