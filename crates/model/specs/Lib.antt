@@ -24,3 +24,11 @@ pub mod ScanLaws
 pub mod Walk
 pub mod ClearLaws
 pub mod Runs
+pub mod Numbers
+pub mod SizeLaws
+pub mod StoredLaws
+pub mod RoomLaws
+pub mod FitsLaws
+pub mod Sizing
+pub mod SizingRuns
+pub mod LimitLaws

@@ -1,0 +1,4 @@
+pub mod Buffers
+pub mod Order
+pub mod Lays
+pub mod OrderLaws

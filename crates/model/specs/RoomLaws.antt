@@ -1,0 +1,73 @@
+-- The room that each call needs in the arena is there, where the charge is within the arena's length: for a new pair and a separator, for a
+-- longer value once the old pair is out, and for the bytes that a merge regains.
+-- Assumes nothing.
+use Prim.Native.Nat.{_*_, _+_, _<_, _≤_, ℕ}
+use mathlib.Core.Bool.{false}
+use mathlib.Core.List.{List, [], _++_, _∷_}
+use mathlib.Core.Option.{none, some}
+use mathlib.Core.Path.{_≡_, refl}
+use native.Mathlib.Omega.{arith}
+use lib.ListN.{length}
+use Rattle.model.specs.Answers.{sizeOf}
+use Rattle.model.specs.Charge.{charge, stored}
+use Rattle.model.specs.Good.{Bounds, Tiled, Tiles}
+use Rattle.model.specs.LeafViews.{on, side, stay}
+use Rattle.model.specs.Leaves.{Node, owned}
+use Rattle.model.specs.Map.{lookup}
+use Rattle.model.specs.MapParts.{length-put}
+use Rattle.model.specs.OwnerLaws.{tiles-first}
+use Rattle.model.specs.Rules.{insertRule, mergeFrom, removeRule}
+use Rattle.model.specs.SizeLaws.{uncut, cuts, cutting, insert-charge, insertCut, remove-charge}
+use Rattle.model.specs.StoredLaws.{charge-ahead, merge-stored-behind, regained, stored-charge}
+use Rattle.order.specs.Bytes.{Bytes}
+
+-- an absent key: the arena has room for the separator, if the leaf is split, and for the new pair
+pub insert-room : {B : Bounds} (F arena : ℕ) (k v : Bytes) (ns : List Node) → Tiles B ns → lookup k (owned k ns) ≡ none
+    → charge (insertRule F k v ns) ≤ arena → stored ns + sizeOf (insertCut F k v ns) + length k + length v ≤ arena
+insert-room F arena k v [] t e h = absurd (let z : _≡_ {A = ℕ} 0 1 = cc (t .starts) in omega arith)
+insert-room F arena k v (n ∷ ns) t e h = omega (arith, rw e at (insert-charge F k v n ns), stored-charge (n ∷ ns))
+
+-- a present key: with the old pair out, not merging, there is room for the new one
+pub replace-room : {B : Bounds} (F arena : ℕ) (k v old : Bytes) (ns : List Node) → Tiles B ns → lookup k (owned k ns) ≡ some old
+    → charge (insertRule F k v ns) ≤ arena → stored (removeRule false k ns) + length k + length v ≤ arena
+replace-room F arena k v old [] t e h = absurd (let z : _≡_ {A = ℕ} 0 1 = cc (t .starts) in omega arith)
+replace-room F arena k v old (n ∷ ns) t e h =
+    omega (
+      arith,
+      rw e at (insert-charge F k v n ns),
+      rw e at (remove-charge false k n ns),
+      stored-charge (removeRule false k (n ∷ ns)),
+    )
+
+-- the owner has room for one pair more (L3)
+pub owned-room : {B : Bounds} (k : Bytes) (ns : List Node) → Tiles B ns → length (owned k ns) < B .fanout
+unfolding owned
+owned-room {B} k ns t = tiles-first (λ ms. length (owned k ms) < B .fanout) (λ n ms h u. go n ms u) ns t
+  where
+    go : (n : Node) (ms : List Node) → Tiled B (n ∷ ms) → length (owned k (n ∷ ms)) < B .fanout
+    go n [] u = u .0 .1
+    go n (m ∷ ms) u = elim (side k m ms) [ on e l ↦ rw e (go m ms (u .1)) | stay e b ↦ rw e (u .0 .1) ]
+
+-- so a replacement splits no leaf
+pub replace-no-split : (F : ℕ) (k v old : Bytes) (ns : List Node) → length (owned k ns) < F → lookup k (owned k ns) ≡ some old
+    → insertCut F k v ns ≡ none
+unfolding insertCut
+replace-no-split F k v old [] h e = refl
+replace-no-split F k v old (n ∷ ns) h e =
+    elim (cutting F k v n ns) [
+      | cuts l s q ↦ absurd (omega (arith, rw e at (length-put k v (owned k (n ∷ ns)))))
+      | uncut l q ↦ q
+    ]
+
+-- any empty leaf with a right neighbour: there is room for what the neighbour's pairs regain
+pub merge-room : (B : Bounds) (ahead : List Node) (n m : Node) (ns : List Node) → Tiled B (ahead ++ (n ∷ m ∷ ns)) → n .pairs ≡ []
+    → stored (ahead ++ (n ∷ m ∷ ns)) + length (m .pairs) * regained n m ns ≤ charge (ahead ++ (n ∷ m ∷ ns))
+unfolding mergeFrom charge
+merge-room B ahead n m ns t e =
+    omega (
+      arith,
+      merge-stored-behind B ahead n m ns t e,
+      stored-charge (ahead ++ mergeFrom n (m ∷ ns)),
+      charge-ahead ahead (mergeFrom n (m ∷ ns)),
+      charge-ahead ahead (n ∷ m ∷ ns),
+    )
