@@ -1,1 +1,2 @@
-// to come
+// The calls that read an index, and the test of W that every call begins with.
+mod check;

@@ -1,0 +1,73 @@
+// The test of W: one pass over the directory and each leaf's words, with a running end in the arena and no scratch memory. Nothing is
+// read before its place is tested, and no sum can overflow, whatever header and buffers come in.
+ghost use mathlib.Core.Path.{_≡_};
+ghost use mathlib.Core.List.{_∷_};
+ghost use Prim.Native.Nat.{ℕ, _+_, _-_, _*_, _^_, _≤_, _<_};
+ghost use lib.ListN.{length, getD, take, drop};
+ghost use Rattle.lists.specs.Exact.{Exact};
+ghost use Rattle.lists.specs.Part.{part};
+ghost use Rattle.tree_read.specs.Check.{WordOk};
+ghost use Rattle.tree_read.specs.CheckCode.{Shaped, LowWordOk, LowRead};
+
+use words::LowKey;
+use words::leaf_number;
+use words::low_key_slot;
+use words::is_low_key;
+use words::unpack_low_key;
+use words::unpack_slot;
+use leaf::Leaf;
+
+pub enum Low {
+    At(LowKey),
+    Unsound,
+}
+
+// Whether a word is a low key's, within limits and inside the arena.
+fn low_word_ok(w: u64, top: usize) -> bool
+    ensures { λ r. ⌜ Exact r (LowWordOk top w) ⌝ }
+{
+    if !is_low_key(w) {
+        return false;
+    }
+    let k = unpack_low_key(w);
+    if Leaf::long_key(k.length) {
+        return false;
+    }
+    k.offset.0 + k.length <= top
+}
+
+// A leaf's low key, by its directory word.
+fn read_low(fanout: usize, pool: usize, slots: &[u64], arena: &[u8], d: u32) -> Low
+    requires { ⌜ Shaped fanout pool (now slots) ⌝ }
+    ensures { λ r. ⌜ LowRead fanout pool (now (slots .entry)) (now (arena .entry)) d r ⌝ }
+{
+    let leaf = leaf_number(d);
+    if pool <= leaf.0 {
+        return Low::Unsound;
+    }
+    let at = low_key_slot(fanout, leaf);
+    let i = at.0;
+    let w = slots[i];
+    if !low_word_ok(w, arena.len()) {
+        return Low::Unsound;
+    }
+    Low::At(unpack_low_key(w))
+}
+
+// Where a slot word's part may start, where it ends, and how long its key and value are.
+fn word_ok(w: u64, top: usize, end: usize, prefix: usize) -> bool
+    requires { ⌜ prefix < 2 ^ 12 ⌝ }
+    ensures { λ r. ⌜ Exact r (WordOk top end prefix w) ⌝ }
+{
+    let s = unpack_slot(w);
+    if s.offset.0 < end {
+        return false;
+    }
+    if top < s.offset.0 + s.suffix + s.value {
+        return false;
+    }
+    if Leaf::long_key(prefix + s.suffix) {
+        return false;
+    }
+    !Leaf::long_value(s.value)
+}
