@@ -1,18 +1,25 @@
 -- The steps of the test of W, over plain lists and numbers.
 -- Assumes nothing.
-use Prim.Native.Nat.{_+_, _<_, _≤_, ℕ}
+use Prim.Native.Nat.{_+_, _-_, _<_, _≤_, ℕ}
 use mathlib.Core.Bool.{Bool, false, not, true}
 use mathlib.Core.List.{List}
-use mathlib.Core.Path.{_∙_, _≡_, ap, refl}
+use mathlib.Core.Path.{sym, _∙_, _≡_, ap, refl}
 use native.Mathlib.Decide.{decLt}
 use native.Mathlib.Nat.{mul-le-mul-right}
 use native.Mathlib.Omega.{arith}
-use lib.ListN.{getD, length}
-use Rattle.layout.specs.Buffers.{lowWord}
+use lib.ListN.{drop, take, getD, length}
+use Rattle.layout.specs.Buffers.{suffixAt, lowWord}
 use Rattle.lists.specs.Exact.{Exact, exact-iff, exact-no, exact-yes, no-way, refuted}
+use Rattle.lists.specs.Part.{part}
 use Rattle.model.specs.Limits.{keyLimit, valueLimit}
-use Rattle.tree_read.specs.Check.{LowOk, WordOk}
-use Rattle.tree_read.specs.CheckCode.{LowWordOk, Shaped, lent}
+use Rattle.model.specs.Place.{at}
+use Rattle.order.specs.Bytes.{_≺_}
+use Rattle.order.specs.Compared.{Compared, compared-equal, compared-greater, compared-less}
+use Rattle.order.specs.OrderLaws.{below-asym, upto-of-eq}
+use Rattle.order.specs.declared.Ordering.{Ordering}
+use Rattle.order.specs.declared.Ordering.the-variants.{Equal, Greater, Less}
+use Rattle.tree_read.specs.Check.{wordEnd, LowOk, WordOk}
+use Rattle.tree_read.specs.CheckCode.{Follows, LowWordOk, Shaped, lent}
 use Rattle.words.specs.Words.{LowKeyUnpacked, Unpacked, lowKeySlot, wordLeaf, wordValue}
 use Rattle.words.specs.declared.LowKey.{LowKey}
 use Rattle.words.specs.declared.Slot.{Slot}
@@ -87,3 +94,37 @@ module _ {w : ℕ} {s : Slot} (top end prefix : ℕ) (u : Unpacked w s) where
     where
       not-over : Exact false (valueLimit < s .value) → s .value ≤ valueLimit
       not-over e = elim (decLt valueLimit (s .value)) [ yes h ↦ no-way (e .complete h) | no h ↦ omega arith ]
+
+-- below
+
+module _ (arena : List ℕ) (a n b m : ℕ) {r : Ordering} (c : Compared (take (a + n - a) (drop a arena)) (take (b + m - b) (drop b arena)) r) where
+  parts-compared : Compared (part arena a n) (part arena b m) r
+  parts-compared =
+      let p : a + n - a ≡ n = omega arith in
+      let q : b + m - b ≡ m = omega arith in
+      rw (p, q) at c
+
+  pub below-less : r ≡ Less → Exact true (part arena a n ≺ part arena b m)
+  below-less e = exact-yes (compared-less parts-compared e)
+
+  pub below-equal : r ≡ Equal → Exact false (part arena a n ≺ part arena b m)
+  below-equal e = exact-no (upto-of-eq (sym (compared-equal parts-compared e)))
+
+  pub below-greater : r ≡ Greater → Exact false (part arena a n ≺ part arena b m)
+  below-greater e = exact-no (below-asym (compared-greater parts-compared e))
+
+-- next_ok
+
+module _ (arena : List ℕ) (prefix p w end : ℕ) {x : Slot} (u : Unpacked p x) (e : end ≡ x .offset .0 + x .suffix + x .value) where
+  end-is : end ≡ wordEnd p
+  end-is = omega (arith, u .offset-is, u .suffix-is, u .value-is)
+
+  pub next-no : {r : Bool} → r ≡ false → Exact r (WordOk (length arena) end prefix w) → Exact false (Follows arena prefix p w)
+  next-no f o = exact-no (λ g. refuted f o (rw end-is (g .0)))
+
+  pub next-below : {r : Bool} {y : Slot} → WordOk (length arena) end prefix w → Unpacked w y → Exact r (part arena (x .offset .0) (x .suffix) ≺ part arena (y .offset .0) (y .suffix))
+      → Exact r (Follows arena prefix p w)
+  unfolding suffixAt
+  next-below {r} o v b =
+      let q : Exact r (suffixAt arena p ≺ suffixAt arena w) = rw (u .offset-is, u .suffix-is, v .offset-is, v .suffix-is) at b in
+      exact-iff q (λ l. (rw end-is at o, l)) (λ g. g .1)

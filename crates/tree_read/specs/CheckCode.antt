@@ -1,11 +1,12 @@
 -- What the functions of the test of W promise, each by the statement that it decides.
-use Prim.Native.Nat.{_+_, _≤_, ℕ, _*_, _<_}
+use Prim.Native.Nat.{_+_, _-_, _^_, _≤_, ℕ, _*_, _<_}
 use mathlib.Core.List.{List}
 use mathlib.Core.Path.{_≡_}
-use lib.ListN.{length}
-use Rattle.layout.specs.Buffers.{Buffers, lowWord}
+use lib.ListN.{getD, length}
+use Rattle.layout.specs.Buffers.{suffixAt, Buffers, lowWord}
 use Rattle.model.specs.Limits.{keyLimit}
-use Rattle.tree_read.specs.Check.{LowOk}
+use Rattle.order.specs.Bytes.{_≺_}
+use Rattle.tree_read.specs.Check.{WordOk, wordEnd, LowOk}
 use Rattle.tree_read.specs.declared.check.Low.{Low}
 use Rattle.tree_read.specs.declared.check.Low.the-variants.{At, Unsound}
 use Rattle.words.specs.Words.{wordOffset, wordSuffix, wordValue, LowKeyUnpacked}
@@ -27,3 +28,13 @@ pub record LowWordOk (top w : ℕ) : Type 0 where
 abbrev pub LowRead : (fanout pool : ℕ) (slots arena : List ℕ) (d : ℕ) → Low → Type 0
 LowRead fanout pool slots arena d (At k) = LowOk (lent fanout slots arena) pool d × LowKeyUnpacked (lowWord (lent fanout slots arena) d) k
 LowRead fanout pool slots arena d Unsound = LowOk (lent fanout slots arena) pool d → ⊥
+
+-- the word w right behind the word p: in place, and its suffix above p's
+abbrev pub Follows : (arena : List ℕ) (prefix p w : ℕ) → Type 0
+Follows arena prefix p w = WordOk (length arena) (wordEnd p) prefix w × (suffixAt arena p ≺ suffixAt arena w)
+
+pub record NextAt (slots arena : List ℕ) (i prefix : ℕ) : Type 0 where
+  pub behind-one : 0 < i
+  pub in-slots : i < length slots
+  pub before-inside : wordEnd (getD slots (i - 1) 0) ≤ length arena
+  pub prefix-fits : prefix < 2 ^ 12

@@ -6,16 +6,21 @@ ghost use Prim.Native.Nat.{ℕ, _+_, _-_, _*_, _^_, _≤_, _<_};
 ghost use lib.ListN.{length, getD, take, drop};
 ghost use Rattle.lists.specs.Exact.{Exact};
 ghost use Rattle.lists.specs.Part.{part};
-ghost use Rattle.tree_read.specs.Check.{WordOk};
-ghost use Rattle.tree_read.specs.CheckCode.{Shaped, LowWordOk, LowRead};
-
+ghost use Rattle.order.specs.Bytes.{_≺_};
+ghost use Rattle.tree_read.specs.Check.{WordOk, wordEnd};
+ghost use Rattle.tree_read.specs.CheckCode.{Shaped, LowWordOk, LowRead, Follows, NextAt};
+use leaf::Leaf;
+use order::Ordering;
+use order::compare;
 use words::LowKey;
+use words::Offset;
+use words::Slot;
+use words::SlotNo;
+use words::is_low_key;
 use words::leaf_number;
 use words::low_key_slot;
-use words::is_low_key;
 use words::unpack_low_key;
 use words::unpack_slot;
-use leaf::Leaf;
 
 pub enum Low {
     At(LowKey),
@@ -70,4 +75,37 @@ fn word_ok(w: u64, top: usize, end: usize, prefix: usize) -> bool
         return false;
     }
     !Leaf::long_value(s.value)
+}
+
+// Whether one part of the arena is below another.
+fn below(arena: &[u8], a: Offset, n: usize, b: Offset, m: usize) -> bool
+    requires { ⌜ (a .0 + n ≤ length (now arena)) × (b .0 + m ≤ length (now arena)) ⌝ }
+    ensures { λ r. ⌜ Exact r (part (now (arena .entry)) (a .0) n ≺ part (now (arena .entry)) (b .0) m) ⌝ }
+{
+    let i = a.0;
+    let j = b.0;
+    let end_i = i + n;
+    let end_j = j + m;
+    match compare(&arena[i..end_i], &arena[j..end_j]) {
+        Ordering::Less => true,
+        Ordering::Equal => false,
+        Ordering::Greater => false,
+    }
+}
+
+// Whether the word at i stands behind the one before it, its suffix above that one's.
+fn next_ok(slots: &[u64], arena: &[u8], i: SlotNo, prefix: usize) -> bool
+    requires { ⌜ NextAt (now slots) (now arena) (i .0) prefix ⌝ }
+    ensures { λ r. ⌜ Exact r (Follows (now (arena .entry)) prefix (getD (now (slots .entry)) (i .0 - 1) 0) (getD (now (slots .entry)) (i .0) 0)) ⌝ }
+{
+    let at = i.0;
+    let p = unpack_slot(slots[at - 1]);
+    let w = slots[at];
+    if !word_ok(w, arena.len(), p.offset.0 + p.suffix + p.value, prefix) {
+        return false;
+    }
+    let s = unpack_slot(w);
+    let from = p.offset;
+    let to = s.offset;
+    below(arena, from, p.suffix, to, s.suffix)
 }

@@ -7,39 +7,27 @@ use native.Mathlib.Omega.{arith}
 use borrow.Author.Needs.{needs}
 use Rattle.tree_read.proofs.check.low_word_ok.Statement.{statement}
 use Rattle.tree_read.proofs.check.low_word_ok.Tie as tie
-use Rattle.tree_read.proofs.check.low_word_ok.Reads as reads
-use Rattle.tree_read.proofs.check.low_word_ok.Lts as lts
-use Rattle.leaf.proofs.Leaf.long_key.Reads as long-key-reads
-use Rattle.words.proofs.is_low_key.Reads as is-low-key-reads
-use Rattle.words.proofs.unpack_low_key.Reads as unpack-low-key-reads
 
--- src/check.rt:29:9
 is-low-key-requires : tie.Need-is-low-key-requires
 is-low-key-requires c κs = search needs
 
--- src/check.rt:30:9
 returns : tie.Need-returns
 returns c = low-word-value _ (not-true _ (c .if1 .taken)) (c .before .is-low-key .ensures)
 
--- src/check.rt:32:9
 unpack-low-key-requires : tie.Need-unpack-low-key-requires
 unpack-low-key-requires c κs = search needs
 
--- src/check.rt:33:8
 long-key-requires : tie.Need-long-key-requires
 long-key-requires c κs = search needs
 
--- src/check.rt:34:9
 returns-2 : tie.Need-returns-2
 returns-2 c = low-word-long _ (c .before .before .unpack-low-key .ensures) (c .before .long-key .ensures .sound (c .if2 .taken))
 
--- src/check.rt:36:5
 add-result : tie.Need-add-result
 add-result c = search needs
 
--- src/check.rt:26:1
 returns-3 : tie.Need-returns-3
-returns-3 c = 
+returns-3 c =
     low-word-inside _ (c .before .before .before .unpack-low-key .ensures) _
     (c .before .before .before .before .before .is-low-key .ensures .sound (not-false _ (c .before .before .before .before .if1 .left)))
     (refuted (c .before .if2 .left) (c .before .before .long-key .ensures)) (exact-leb _ _)

@@ -6,46 +6,31 @@ use native.Mathlib.Omega.{arith}
 use borrow.Author.Needs.{needs}
 use Rattle.tree_read.proofs.check.read_low.Statement.{statement}
 use Rattle.tree_read.proofs.check.read_low.Tie as tie
-use Rattle.tree_read.proofs.check.read_low.Reads as reads
-use Rattle.tree_read.proofs.check.read_low.Lts as lts
-use Rattle.tree_read.proofs.check.low_word_ok.Reads as low-word-ok-reads
-use Rattle.words.proofs.leaf_number.Reads as leaf-number-reads
-use Rattle.words.proofs.low_key_slot.Reads as low-key-slot-reads
-use Rattle.words.proofs.unpack_low_key.Reads as unpack-low-key-reads
 
--- src/check.rt:44:9
 leaf-number-requires : tie.Need-leaf-number-requires
 leaf-number-requires c κs = search needs
 
--- src/check.rt:46:9
 returns : tie.Need-returns
 returns c = low-outside _ _ _ _ _ _ (c .before .before .leaf-number .ensures .0) (omega arith)
 
--- src/check.rt:48:9
 low-key-slot-requires : tie.Need-low-key-slot-requires
 low-key-slot-requires c κs = (search needs, omega (arith, low-slot-in _ _ (c .before .before .leaf-number .result .0) _ (c .before .before .before .before .before .pre) (omega arith)))
 
--- src/check.rt:50:13
 mul-w : tie.Need-mul-w
 mul-w c = omega (arith, low-slot-in _ _ (c .before .before .before .leaf-number .result .0) _ (c .before .before .before .before .before .before .pre) (omega arith))
 
--- src/check.rt:50:13
 shared-slice-read-w : tie.Need-shared-slice-read-w
 shared-slice-read-w c = omega (arith, low-slot-in _ _ (c .before .before .before .before .leaf-number .result .0) _ (c .before .before .before .before .before .before .before .pre) (omega arith))
 
--- src/check.rt:51:9
 low-word-ok-requires : tie.Need-low-word-ok-requires
 low-word-ok-requires c κs = search needs
 
--- src/check.rt:52:9
 returns-2 : tie.Need-returns-2
 returns-2 c = low-read-no _ _ _ _ _ _ _ (c .before .before .before .before .before .before .leaf-number .ensures .0) (c .before .before .before .low-key-slot .ensures) (not-true _ (c .if2 .taken)) (c .before .low-word-ok .ensures)
 
--- src/check.rt:54:13
 unpack-low-key-requires : tie.Need-unpack-low-key-requires
 unpack-low-key-requires c κs = search needs
 
--- src/check.rt:40:1
 returns-3 : tie.Need-returns-3
 returns-3 c = low-read-yes _ _ _ _ _ _ _ (c .before .before .before .before .before .before .before .leaf-number .ensures .0) (c .before .before .before .before .low-key-slot .ensures) (omega arith) (c .before .before .low-word-ok .ensures .sound (not-false _ (c .before .if2 .left))) (c .unpack-low-key .ensures)
 
