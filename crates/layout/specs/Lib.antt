@@ -6,3 +6,8 @@ pub mod LaysLaws
 pub mod LaysUnique
 pub mod LaysParts
 pub mod LaysWords
+pub mod Examples
+pub mod Encode
+pub mod Encoded
+pub mod EncodedFits
+pub mod Existence

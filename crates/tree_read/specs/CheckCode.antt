@@ -4,11 +4,15 @@ use mathlib.Core.List.{List}
 use mathlib.Core.Path.{_≡_}
 use lib.ListN.{getD, length}
 use Rattle.layout.specs.Buffers.{suffixAt, Buffers, lowWord}
+use Rattle.lists.specs.Part.{part}
 use Rattle.model.specs.Limits.{keyLimit}
 use Rattle.order.specs.Bytes.{_≺_}
-use Rattle.tree_read.specs.Check.{WordOk, wordEnd, LowOk}
+use Rattle.tree_read.specs.Check.{RunPairs, endAfter, wordsCharge, WordOk, wordEnd, LowOk}
 use Rattle.tree_read.specs.declared.check.Low.{Low}
 use Rattle.tree_read.specs.declared.check.Low.the-variants.{At, Unsound}
+use Rattle.tree_read.specs.declared.check.Pass.{Pass}
+use Rattle.tree_read.specs.declared.check.Pass.the-variants.{Failed, Sound}
+use Rattle.tree_read.specs.declared.check.Sum.{Sum}
 use Rattle.words.specs.Words.{wordOffset, wordSuffix, wordValue, LowKeyUnpacked}
 
 abbrev pub lent : (fanout : ℕ) (slots arena : List ℕ) → Buffers
@@ -38,3 +42,27 @@ pub record NextAt (slots arena : List ℕ) (i prefix : ℕ) : Type 0 where
   pub in-slots : i < length slots
   pub before-inside : wordEnd (getD slots (i - 1) 0) ≤ length arena
   pub prefix-fits : prefix < 2 ^ 12
+
+-- a leaf's slot words from the second on, the first one in place
+
+pub record Rested (slots arena : List ℕ) (first count prefix : ℕ) : Type 0 where
+  pub some-pair : 0 < count
+  pub in-slots : first + count ≤ length slots
+  pub few : count < 2 ^ 20
+  pub first-inside : wordEnd (getD slots first 0) ≤ length arena
+  pub prefix-fits : prefix < 2 ^ 12
+
+abbrev pub restOf : (slots : List ℕ) (first count : ℕ) → List ℕ
+restOf slots first count = part slots (first + 1) (count - 1)
+
+abbrev pub RestOk : (slots arena : List ℕ) (first count prefix : ℕ) → Type 0
+RestOk slots arena first count prefix = RunPairs arena prefix (wordEnd (getD slots first 0)) (suffixAt arena (getD slots first 0)) (restOf slots first count)
+
+pub record RestSum (slots : List ℕ) (first count prefix : ℕ) (s : Sum) : Type 0 where
+  pub end-is : s .end ≡ endAfter (wordEnd (getD slots first 0)) (restOf slots first count)
+  pub charge-is : s .charge ≡ wordsCharge prefix (part slots first count)
+  pub charge-few : s .charge ≤ count * 2 ^ 25
+
+abbrev pub RestRead : (slots arena : List ℕ) (first count prefix : ℕ) → Pass → Type 0
+RestRead slots arena first count prefix (Sound s) = RestOk slots arena first count prefix × RestSum slots first count prefix s
+RestRead slots arena first count prefix Failed = RestOk slots arena first count prefix → ⊥

@@ -7,8 +7,9 @@ ghost use lib.ListN.{length, getD, take, drop};
 ghost use Rattle.lists.specs.Exact.{Exact};
 ghost use Rattle.lists.specs.Part.{part};
 ghost use Rattle.order.specs.Bytes.{_≺_};
+ghost use Rattle.words.specs.Words.{wordSuffix, wordValue};
 ghost use Rattle.tree_read.specs.Check.{WordOk, wordEnd};
-ghost use Rattle.tree_read.specs.CheckCode.{Shaped, LowWordOk, LowRead, Follows, NextAt};
+ghost use Rattle.tree_read.specs.CheckCode.{Shaped, LowWordOk, LowRead, Follows, NextAt, Rested, RestRead};
 use leaf::Leaf;
 use order::Ordering;
 use order::compare;
@@ -25,6 +26,17 @@ use words::unpack_slot;
 pub enum Low {
     At(LowKey),
     Unsound,
+}
+
+// Where a leaf's last part ends, and its charge.
+pub struct Sum {
+    pub end: usize,
+    pub charge: usize,
+}
+
+pub enum Pass {
+    Sound(Sum),
+    Failed,
 }
 
 // Whether a word is a low key's, within limits and inside the arena.
@@ -108,4 +120,42 @@ fn next_ok(slots: &[u64], arena: &[u8], i: SlotNo, prefix: usize) -> bool
     let from = p.offset;
     let to = s.offset;
     below(arena, from, p.suffix, to, s.suffix)
+}
+
+fn word_end(w: u64) -> usize
+    ensures { λ r. ⌜ (r ≡ wordEnd w) × (r < 2 ^ 30) ⌝ }
+{
+    let s = unpack_slot(w);
+    s.offset.0 + s.suffix + s.value
+}
+
+// A pair's charge: its whole key and its value.
+fn pair_charge(w: u64, prefix: usize) -> usize
+    requires { ⌜ prefix < 2 ^ 12 ⌝ }
+    ensures { λ r. ⌜ (r ≡ prefix + wordSuffix w + wordValue w) × (r < 2 ^ 25) ⌝ }
+{
+    let s = unpack_slot(w);
+    prefix + s.suffix + s.value
+}
+
+// The slot words of a leaf from the second on.
+fn check_rest(slots: &[u64], arena: &[u8], first: SlotNo, count: usize, prefix: usize) -> Pass
+    requires { ⌜ Rested (now slots) (now arena) (first .0) count prefix ⌝ }
+    ensures { λ r. ⌜ RestRead (now (slots .entry)) (now (arena .entry)) (first .0) count prefix r ⌝ }
+{
+    let f = first.0;
+    let top = f + count;
+    let mut charge = pair_charge(slots[f], prefix);
+    let mut i = f + 1;
+    while i < top {
+        if !next_ok(slots, arena, SlotNo(i), prefix) {
+            return Pass::Failed;
+        }
+        charge += pair_charge(slots[i], prefix);
+        i += 1;
+    }
+    Pass::Sound(Sum {
+        end: word_end(slots[i - 1]),
+        charge: charge,
+    })
 }
