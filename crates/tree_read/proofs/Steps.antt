@@ -9,8 +9,9 @@ use native.Mathlib.Nat.{mul-le-mul-right}
 use native.Mathlib.Omega.{arith}
 use lib.ListN.{drop, take, getD, length}
 use Rattle.layout.specs.Buffers.{suffixAt, lowWord}
-use Rattle.lists.specs.Exact.{Exact, exact-iff, exact-no, exact-yes, no-way, refuted}
+use Rattle.lists.specs.Exact.{exact-not, Exact, exact-iff, exact-no, exact-yes, no-way, refuted}
 use Rattle.lists.specs.Part.{part}
+use Rattle.model.specs.Leaves.{Under}
 use Rattle.model.specs.Limits.{keyLimit, valueLimit}
 use Rattle.model.specs.Place.{at}
 use Rattle.order.specs.Bytes.{_≺_}
@@ -19,7 +20,9 @@ use Rattle.order.specs.OrderLaws.{below-asym, upto-of-eq}
 use Rattle.order.specs.declared.Ordering.{Ordering}
 use Rattle.order.specs.declared.Ordering.the-variants.{Equal, Greater, Less}
 use Rattle.tree_read.specs.Check.{wordEnd, LowOk, WordOk}
-use Rattle.tree_read.specs.CheckCode.{Follows, LowWordOk, Shaped, lent}
+use Rattle.tree_read.specs.CheckCode.{FirstOk, KeyAt, UpperAt, keyPart, upperPart, Follows, LowWordOk, Shaped, lent}
+use Rattle.tree_read.specs.declared.check.Upper.{Upper}
+use Rattle.tree_read.specs.declared.check.Upper.the-variants.{At, Nothing}
 use Rattle.words.specs.Words.{LowKeyUnpacked, Unpacked, lowKeySlot, wordLeaf, wordValue}
 use Rattle.words.specs.declared.LowKey.{LowKey}
 use Rattle.words.specs.declared.Slot.{Slot}
@@ -128,3 +131,30 @@ module _ (arena : List ℕ) (prefix p w end : ℕ) {x : Slot} (u : Unpacked p x)
   next-below {r} o v b =
       let q : Exact r (suffixAt arena p ≺ suffixAt arena w) = rw (u .offset-is, u .suffix-is, v .offset-is, v .suffix-is) at b in
       exact-iff q (λ l. (rw end-is at o, l)) (λ g. g .1)
+
+-- first_ok
+
+module _ (arena : List ℕ) (prefix w end : ℕ) (low : LowKey) (e : end ≡ low .offset .0 + low .length) where
+  pub first-no : {r : Bool} → r ≡ false → Exact r (WordOk (length arena) end prefix w) → Exact false (FirstOk arena prefix low w)
+  first-no f o = exact-no (λ g. refuted f o (rw e (g .0)))
+
+  pub first-not-below : {r : Bool} {s : Slot} → WordOk (length arena) end prefix w → Unpacked w s → Exact r (part arena (s .offset .0) (s .suffix) ≺ keyPart arena prefix low)
+      → Exact (not r) (FirstOk arena prefix low w)
+  unfolding suffixAt
+  first-not-below {r} o u b =
+      let q : Exact r (suffixAt arena w ≺ keyPart arena prefix low) = rw (u .offset-is, u .suffix-is) at b in
+      exact-iff (exact-not r q) (λ l. (rw e at o, l)) (λ g. g .1)
+
+-- last_ok
+
+module _ (arena : List ℕ) (prefix w : ℕ) {upper : Upper} where
+  pub last-free : upper ≡ Nothing → Exact true (Under (upperPart arena prefix upper) (suffixAt arena w))
+  last-free e = exact-yes (rw e tt)
+
+  pub last-below : {r : Bool} {s : Slot} {u : LowKey} → upper ≡ At u → Unpacked w s → Exact r (part arena (s .offset .0) (s .suffix) ≺ keyPart arena prefix u)
+      → Exact r (Under (upperPart arena prefix upper) (suffixAt arena w))
+  unfolding suffixAt
+  last-below e v b = rw e (rw (v .offset-is, v .suffix-is) at b)
+
+  pub upper-key : {u : LowKey} → upper ≡ At u → UpperAt arena prefix upper → KeyAt arena prefix u
+  upper-key e k = rw e at k

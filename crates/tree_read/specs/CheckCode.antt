@@ -1,19 +1,23 @@
 -- What the functions of the test of W promise, each by the statement that it decides.
 use Prim.Native.Nat.{_+_, _-_, _^_, _≤_, ℕ, _*_, _<_}
 use mathlib.Core.List.{List}
+use mathlib.Core.Option.{Option, none, some}
 use mathlib.Core.Path.{_≡_}
 use lib.ListN.{getD, length}
 use Rattle.layout.specs.Buffers.{suffixAt, Buffers, lowWord}
 use Rattle.lists.specs.Part.{part}
 use Rattle.model.specs.Limits.{keyLimit}
-use Rattle.order.specs.Bytes.{_≺_}
+use Rattle.order.specs.Bytes.{Bytes, _≼_, _≺_}
 use Rattle.tree_read.specs.Check.{RunPairs, endAfter, wordsCharge, WordOk, wordEnd, LowOk}
 use Rattle.tree_read.specs.declared.check.Low.{Low}
-use Rattle.tree_read.specs.declared.check.Low.the-variants.{At, Unsound}
+use Rattle.tree_read.specs.declared.check.Low.the-variants.{Read, Unsound}
 use Rattle.tree_read.specs.declared.check.Pass.{Pass}
 use Rattle.tree_read.specs.declared.check.Pass.the-variants.{Failed, Sound}
 use Rattle.tree_read.specs.declared.check.Sum.{Sum}
+use Rattle.tree_read.specs.declared.check.Upper.{Upper}
+use Rattle.tree_read.specs.declared.check.Upper.the-variants.{At, Nothing}
 use Rattle.words.specs.Words.{wordOffset, wordSuffix, wordValue, LowKeyUnpacked}
+use Rattle.words.specs.declared.LowKey.{LowKey}
 
 abbrev pub lent : (fanout : ℕ) (slots arena : List ℕ) → Buffers
 lent fanout slots arena = record { fanout = fanout; slots = slots; arena = arena }
@@ -30,7 +34,7 @@ pub record LowWordOk (top w : ℕ) : Type 0 where
   pub inside : wordOffset w + wordSuffix w ≤ top
 
 abbrev pub LowRead : (fanout pool : ℕ) (slots arena : List ℕ) (d : ℕ) → Low → Type 0
-LowRead fanout pool slots arena d (At k) = LowOk (lent fanout slots arena) pool d × LowKeyUnpacked (lowWord (lent fanout slots arena) d) k
+LowRead fanout pool slots arena d (Read k) = LowOk (lent fanout slots arena) pool d × LowKeyUnpacked (lowWord (lent fanout slots arena) d) k
 LowRead fanout pool slots arena d Unsound = LowOk (lent fanout slots arena) pool d → ⊥
 
 -- the word w right behind the word p: in place, and its suffix above p's
@@ -66,3 +70,24 @@ pub record RestSum (slots : List ℕ) (first count prefix : ℕ) (s : Sum) : Typ
 abbrev pub RestRead : (slots arena : List ℕ) (first count prefix : ℕ) → Pass → Type 0
 RestRead slots arena first count prefix (Sound s) = RestOk slots arena first count prefix × RestSum slots first count prefix s
 RestRead slots arena first count prefix Failed = RestOk slots arena first count prefix → ⊥
+
+-- a low key inside the arena, at least as long as the prefix; and what follows the prefix in it
+
+pub record KeyAt (arena : List ℕ) (prefix : ℕ) (k : LowKey) : Type 0 where
+  pub inside : k .offset .0 + k .length ≤ length arena
+  pub fits : k .length < 2 ^ 12
+  pub long : prefix ≤ k .length
+
+abbrev pub keyPart : (arena : List ℕ) (prefix : ℕ) → LowKey → Bytes
+keyPart arena prefix k = part arena (k .offset .0 + prefix) (k .length - prefix)
+
+abbrev pub UpperAt : (arena : List ℕ) (prefix : ℕ) → Upper → Type 0
+UpperAt arena prefix (At u) = KeyAt arena prefix u
+UpperAt arena prefix Nothing = Unit {0}
+
+abbrev pub upperPart : (arena : List ℕ) (prefix : ℕ) → Upper → Option Bytes
+upperPart arena prefix (At u) = some (keyPart arena prefix u)
+upperPart arena prefix Nothing = none
+
+abbrev pub FirstOk : (arena : List ℕ) (prefix : ℕ) → LowKey → ℕ → Type 0
+FirstOk arena prefix low w = WordOk (length arena) (low .offset .0 + low .length) prefix w × (keyPart arena prefix low ≼ suffixAt arena w)

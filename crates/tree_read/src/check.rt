@@ -7,9 +7,11 @@ ghost use lib.ListN.{length, getD, take, drop};
 ghost use Rattle.lists.specs.Exact.{Exact};
 ghost use Rattle.lists.specs.Part.{part};
 ghost use Rattle.order.specs.Bytes.{_≺_};
+ghost use Rattle.model.specs.Leaves.{Under};
+ghost use Rattle.layout.specs.Buffers.{suffixAt};
 ghost use Rattle.words.specs.Words.{wordSuffix, wordValue};
 ghost use Rattle.tree_read.specs.Check.{WordOk, wordEnd};
-ghost use Rattle.tree_read.specs.CheckCode.{Shaped, LowWordOk, LowRead, Follows, NextAt, Rested, RestRead};
+ghost use Rattle.tree_read.specs.CheckCode.{Shaped, LowWordOk, LowRead, Follows, NextAt, Rested, RestRead, KeyAt, UpperAt, upperPart, FirstOk};
 use leaf::Leaf;
 use order::Ordering;
 use order::compare;
@@ -24,8 +26,14 @@ use words::unpack_low_key;
 use words::unpack_slot;
 
 pub enum Low {
-    At(LowKey),
+    Read(LowKey),
     Unsound,
+}
+
+// A leaf's upper key is the next leaf's low key; the last leaf has none.
+pub enum Upper {
+    At(LowKey),
+    Nothing,
 }
 
 // Where a leaf's last part ends, and its charge.
@@ -68,7 +76,7 @@ fn read_low(fanout: usize, pool: usize, slots: &[u64], arena: &[u8], d: u32) -> 
     if !low_word_ok(w, arena.len()) {
         return Low::Unsound;
     }
-    Low::At(unpack_low_key(w))
+    Low::Read(unpack_low_key(w))
 }
 
 // Where a slot word's part may start, where it ends, and how long its key and value are.
@@ -158,4 +166,46 @@ fn check_rest(slots: &[u64], arena: &[u8], first: SlotNo, count: usize, prefix: 
         end: word_end(slots[i - 1]),
         charge: charge,
     })
+}
+
+// Whether a leaf's first word stands behind its low key, its suffix not below that key's.
+fn first_ok(slots: &[u64], arena: &[u8], i: SlotNo, prefix: usize, low: LowKey) -> bool
+    requires { ⌜ (i .0 < length (now slots)) × KeyAt (now arena) prefix low ⌝ }
+    ensures { λ r. ⌜ Exact r (FirstOk (now (arena .entry)) prefix low (getD (now (slots .entry)) (i .0) 0)) ⌝ }
+{
+    let at = i.0;
+    let start = low.offset.0;
+    let w = slots[at];
+    if !word_ok(w, arena.len(), start + low.length, prefix) {
+        return false;
+    }
+    let s = unpack_slot(w);
+    let from = s.offset;
+    !below(
+        arena,
+        from,
+        s.suffix,
+        Offset(start + prefix),
+        low.length - prefix,
+    )
+}
+
+// Whether a leaf's last suffix is below its upper key.
+fn last_ok(slots: &[u64], arena: &[u8], i: SlotNo, prefix: usize, upper: Upper) -> bool
+    requires { ⌜ (i .0 < length (now slots)) × (wordEnd (getD (now slots) (i .0) 0) ≤ length (now arena)) × UpperAt (now arena) prefix upper ⌝ }
+    ensures { λ r. ⌜ Exact r (Under (upperPart (now (arena .entry)) prefix upper) (suffixAt (now (arena .entry)) (getD (now (slots .entry)) (i .0) 0))) ⌝ }
+{
+    let Upper::At(u) = upper else {
+        return true;
+    };
+    let at = i.0;
+    let s = unpack_slot(slots[at]);
+    let from = s.offset;
+    below(
+        arena,
+        from,
+        s.suffix,
+        Offset(u.offset.0 + prefix),
+        u.length - prefix,
+    )
 }
