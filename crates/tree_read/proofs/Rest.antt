@@ -26,7 +26,7 @@ pub record Rest (slots arena : List ℕ) (first count prefix i charge : ℕ) : T
   pub charge-few : charge ≤ (i - first) * 2 ^ 25
 
 -- a part by its first word
-rest-cons : (slots : List ℕ) (i m n : ℕ) → n ≡ m + 1 → i < length slots → part slots i n ≡ getD slots i 0 ∷ part slots (i + 1) m
+pub rest-cons : (slots : List ℕ) (i m n : ℕ) → n ≡ m + 1 → i < length slots → part slots i n ≡ getD slots i 0 ∷ part slots (i + 1) m
 rest-cons slots i m n e h = rw (e, add-one m, add-one i) (part-cons slots i m 0 h)
 
 module _ (slots arena : List ℕ) (first count prefix : ℕ) (r : Rested slots arena first count prefix) where

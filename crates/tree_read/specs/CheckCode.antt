@@ -8,7 +8,7 @@ use Rattle.layout.specs.Buffers.{suffixAt, Buffers, lowWord}
 use Rattle.lists.specs.Part.{part}
 use Rattle.model.specs.Limits.{keyLimit}
 use Rattle.order.specs.Bytes.{Bytes, _≼_, _≺_}
-use Rattle.tree_read.specs.Check.{RunPairs, endAfter, wordsCharge, WordOk, wordEnd, LowOk}
+use Rattle.tree_read.specs.Check.{PairsOk, RunPairs, endAfter, wordsCharge, WordOk, wordEnd, LowOk}
 use Rattle.tree_read.specs.declared.check.Low.{Low}
 use Rattle.tree_read.specs.declared.check.Low.the-variants.{Read, Unsound}
 use Rattle.tree_read.specs.declared.check.Pass.{Pass}
@@ -91,3 +91,24 @@ upperPart arena prefix Nothing = none
 
 abbrev pub FirstOk : (arena : List ℕ) (prefix : ℕ) → LowKey → ℕ → Type 0
 FirstOk arena prefix low w = WordOk (length arena) (low .offset .0 + low .length) prefix w × (keyPart arena prefix low ≼ suffixAt arena w)
+
+-- a leaf's slot words, between its low key and its upper key
+
+pub record PairsAt (slots arena : List ℕ) (first count prefix : ℕ) (low : LowKey) (upper : Upper) : Type 0 where
+  pub in-slots : first + count ≤ length slots
+  pub few : count < 2 ^ 20
+  pub low-at : KeyAt arena prefix low
+  pub upper-at : UpperAt arena prefix upper
+
+abbrev pub PairsOkAt : (slots arena : List ℕ) (first count prefix : ℕ) → LowKey → Upper → Type 0
+PairsOkAt slots arena first count prefix low upper =
+    PairsOk arena prefix (low .offset .0 + low .length) (keyPart arena prefix low) (upperPart arena prefix upper) (part slots first count)
+
+pub record PairsSum (slots : List ℕ) (first count prefix : ℕ) (low : LowKey) (s : Sum) : Type 0 where
+  pub end-is : s .end ≡ endAfter (low .offset .0 + low .length) (part slots first count)
+  pub charge-is : s .charge ≡ wordsCharge prefix (part slots first count)
+  pub charge-few : s .charge ≤ count * 2 ^ 25
+
+abbrev pub PairsRead : (slots arena : List ℕ) (first count prefix : ℕ) → LowKey → Upper → Pass → Type 0
+PairsRead slots arena first count prefix low upper (Sound s) = PairsOkAt slots arena first count prefix low upper × PairsSum slots first count prefix low s
+PairsRead slots arena first count prefix low upper Failed = PairsOkAt slots arena first count prefix low upper → ⊥

@@ -11,7 +11,7 @@ ghost use Rattle.model.specs.Leaves.{Under};
 ghost use Rattle.layout.specs.Buffers.{suffixAt};
 ghost use Rattle.words.specs.Words.{wordSuffix, wordValue};
 ghost use Rattle.tree_read.specs.Check.{WordOk, wordEnd};
-ghost use Rattle.tree_read.specs.CheckCode.{Shaped, LowWordOk, LowRead, Follows, NextAt, Rested, RestRead, KeyAt, UpperAt, upperPart, FirstOk};
+ghost use Rattle.tree_read.specs.CheckCode.{Shaped, LowWordOk, LowRead, Follows, NextAt, Rested, RestRead, KeyAt, UpperAt, upperPart, FirstOk, PairsAt, PairsRead};
 use leaf::Leaf;
 use order::Ordering;
 use order::compare;
@@ -208,4 +208,37 @@ fn last_ok(slots: &[u64], arena: &[u8], i: SlotNo, prefix: usize, upper: Upper) 
         Offset(u.offset.0 + prefix),
         u.length - prefix,
     )
+}
+
+// A leaf's slot words, between its low key and its upper key.
+fn check_pairs(
+    slots: &[u64],
+    arena: &[u8],
+    first: SlotNo,
+    count: usize,
+    prefix: usize,
+    low: LowKey,
+    upper: Upper,
+) -> Pass
+    requires { ⌜ PairsAt (now slots) (now arena) (first .0) count prefix low upper ⌝ }
+    ensures { λ r. ⌜ PairsRead (now (slots .entry)) (now (arena .entry)) (first .0) count prefix low upper r ⌝ }
+{
+    let start = low.offset.0;
+    if count == 0 {
+        return Pass::Sound(Sum {
+            end: start + low.length,
+            charge: 0,
+        });
+    }
+    if !first_ok(slots, arena, first, prefix, low) {
+        return Pass::Failed;
+    }
+    let Pass::Sound(sum) = check_rest(slots, arena, first, count, prefix) else {
+        return Pass::Failed;
+    };
+    let at = first.0;
+    if !last_ok(slots, arena, SlotNo(at + count - 1), prefix, upper) {
+        return Pass::Failed;
+    }
+    Pass::Sound(sum)
 }
