@@ -1,10 +1,13 @@
-// The leaf's own type: its constructor and document 01's limits on keys, values and fanout.
+// The leaf's own type: its constructor and document 01's limits on keys, values and fanout. Its upper key and prefix length.
 ghost use mathlib.Core.Path.{_≡_};
 ghost use Prim.Native.Nat.{_<_, _≤_};
 ghost use Rattle.lists.specs.Exact.{Exact};
 ghost use Rattle.model.specs.Limits.{keyLimit, valueLimit, fanoutLeast, fanoutLimit};
 ghost use Rattle.leaf.specs.Leaf.{IsEmpty};
+ghost use Rattle.leaf.specs.Keys.{KeyAt, UpperAt, PrefixOf};
+use order::common;
 use words::LeafNo;
+use words::LowKey;
 
 // A leaf by value: its number in the pool, its fanout, how many pairs it has, and its prefix length.
 pub struct Leaf {
@@ -55,4 +58,25 @@ impl Leaf {
         }
         fanout <= Leaf::FANOUT_LIMIT
     }
+}
+
+// A leaf's upper key is the next leaf's low key; the last leaf has none.
+pub enum Upper {
+    At(LowKey),
+    Nothing,
+}
+
+// L2: where the leaf has no upper key, the prefix length stays 0.
+pub fn prefix_length(arena: &[u8], low: LowKey, upper: Upper) -> usize
+    requires { ⌜ KeyAt (now arena) 0 low × UpperAt (now arena) 0 upper ⌝ }
+    ensures { λ r. ⌜ PrefixOf (now (arena .entry)) low upper r ⌝ }
+{
+    let Upper::At(u) = upper else {
+        return 0;
+    };
+    let i = low.offset.0;
+    let j = u.offset.0;
+    let end_i = i + low.length;
+    let end_j = j + u.length;
+    common(&arena[i..end_i], &arena[j..end_j])
 }

@@ -7,16 +7,17 @@ use native.Mathlib.Nat.{add-zero}
 use native.Mathlib.Omega.{arith}
 use lib.ListN.{getD, length}
 use Rattle.layout.specs.Buffers.{suffixAt}
+use Rattle.leaf.specs.Keys.{upperPart}
+use Rattle.leaf.specs.declared.Upper.{Upper}
 use Rattle.lists.specs.Part.{part}
 use Rattle.model.specs.Leaves.{Under}
 use Rattle.model.specs.Place.{at}
 use Rattle.tree_read.proofs.Rest.{rest-cons}
 use Rattle.tree_read.specs.Check.{RunPairs, lastSuffix, wordEnd}
-use Rattle.tree_read.specs.CheckCode.{RestRead, FirstOk, PairsAt, PairsOkAt, PairsSum, RestOk, RestSum, restOf, upperPart}
+use Rattle.tree_read.specs.CheckCode.{RestRead, FirstOk, PairsAt, PairsOkAt, PairsSum, RestOk, RestSum, restOf}
 use Rattle.tree_read.specs.declared.check.Pass.{Pass}
 use Rattle.tree_read.specs.declared.check.Pass.the-variants.{Failed, Sound}
 use Rattle.tree_read.specs.declared.check.Sum.{Sum}
-use Rattle.tree_read.specs.declared.check.Upper.{Upper}
 use Rattle.words.specs.declared.LowKey.{LowKey}
 
 -- the last word of a run

@@ -9,6 +9,9 @@ use native.Mathlib.Nat.{mul-le-mul-right}
 use native.Mathlib.Omega.{arith}
 use lib.ListN.{drop, take, getD, length}
 use Rattle.layout.specs.Buffers.{suffixAt, lowWord}
+use Rattle.leaf.specs.Keys.{keyPart, upperPart}
+use Rattle.leaf.specs.declared.Upper.{Upper}
+use Rattle.leaf.specs.declared.Upper.the-variants.{At, Nothing}
 use Rattle.lists.specs.Exact.{exact-not, Exact, exact-iff, exact-no, exact-yes, no-way, refuted}
 use Rattle.lists.specs.Part.{part}
 use Rattle.model.specs.Leaves.{Under}
@@ -20,9 +23,7 @@ use Rattle.order.specs.OrderLaws.{below-asym, upto-of-eq}
 use Rattle.order.specs.declared.Ordering.{Ordering}
 use Rattle.order.specs.declared.Ordering.the-variants.{Equal, Greater, Less}
 use Rattle.tree_read.specs.Check.{wordEnd, LowOk, WordOk}
-use Rattle.tree_read.specs.CheckCode.{FirstOk, KeyAt, UpperAt, keyPart, upperPart, Follows, LowWordOk, Shaped, lent}
-use Rattle.tree_read.specs.declared.check.Upper.{Upper}
-use Rattle.tree_read.specs.declared.check.Upper.the-variants.{At, Nothing}
+use Rattle.tree_read.specs.CheckCode.{FirstOk, Follows, LowWordOk, Shaped, lent}
 use Rattle.words.specs.Words.{LowKeyUnpacked, Unpacked, lowKeySlot, wordLeaf, wordValue}
 use Rattle.words.specs.declared.LowKey.{LowKey}
 use Rattle.words.specs.declared.Slot.{Slot}
@@ -155,6 +156,3 @@ module _ (arena : List ℕ) (prefix w : ℕ) {upper : Upper} where
       → Exact r (Under (upperPart arena prefix upper) (suffixAt arena w))
   unfolding suffixAt
   last-below e v b = rw e (rw (v .offset-is, v .suffix-is) at b)
-
-  pub upper-key : {u : LowKey} → upper ≡ At u → UpperAt arena prefix upper → KeyAt arena prefix u
-  upper-key e k = rw e at k

@@ -1,21 +1,20 @@
 -- What the functions of the test of W promise, each by the statement that it decides.
 use Prim.Native.Nat.{_+_, _-_, _^_, _≤_, ℕ, _*_, _<_}
 use mathlib.Core.List.{List}
-use mathlib.Core.Option.{Option, none, some}
 use mathlib.Core.Path.{_≡_}
 use lib.ListN.{getD, length}
 use Rattle.layout.specs.Buffers.{suffixAt, Buffers, lowWord}
+use Rattle.leaf.specs.Keys.{KeyAt, UpperAt, keyPart, upperPart}
+use Rattle.leaf.specs.declared.Upper.{Upper}
 use Rattle.lists.specs.Part.{part}
 use Rattle.model.specs.Limits.{keyLimit}
-use Rattle.order.specs.Bytes.{Bytes, _≼_, _≺_}
+use Rattle.order.specs.Bytes.{_≼_, _≺_}
 use Rattle.tree_read.specs.Check.{PairsOk, RunPairs, endAfter, wordsCharge, WordOk, wordEnd, LowOk}
 use Rattle.tree_read.specs.declared.check.Low.{Low}
 use Rattle.tree_read.specs.declared.check.Low.the-variants.{Read, Unsound}
 use Rattle.tree_read.specs.declared.check.Pass.{Pass}
 use Rattle.tree_read.specs.declared.check.Pass.the-variants.{Failed, Sound}
 use Rattle.tree_read.specs.declared.check.Sum.{Sum}
-use Rattle.tree_read.specs.declared.check.Upper.{Upper}
-use Rattle.tree_read.specs.declared.check.Upper.the-variants.{At, Nothing}
 use Rattle.words.specs.Words.{wordOffset, wordSuffix, wordValue, LowKeyUnpacked}
 use Rattle.words.specs.declared.LowKey.{LowKey}
 
@@ -71,23 +70,7 @@ abbrev pub RestRead : (slots arena : List ℕ) (first count prefix : ℕ) → Pa
 RestRead slots arena first count prefix (Sound s) = RestOk slots arena first count prefix × RestSum slots first count prefix s
 RestRead slots arena first count prefix Failed = RestOk slots arena first count prefix → ⊥
 
--- a low key inside the arena, at least as long as the prefix; and what follows the prefix in it
-
-pub record KeyAt (arena : List ℕ) (prefix : ℕ) (k : LowKey) : Type 0 where
-  pub inside : k .offset .0 + k .length ≤ length arena
-  pub fits : k .length < 2 ^ 12
-  pub long : prefix ≤ k .length
-
-abbrev pub keyPart : (arena : List ℕ) (prefix : ℕ) → LowKey → Bytes
-keyPart arena prefix k = part arena (k .offset .0 + prefix) (k .length - prefix)
-
-abbrev pub UpperAt : (arena : List ℕ) (prefix : ℕ) → Upper → Type 0
-UpperAt arena prefix (At u) = KeyAt arena prefix u
-UpperAt arena prefix Nothing = Unit {0}
-
-abbrev pub upperPart : (arena : List ℕ) (prefix : ℕ) → Upper → Option Bytes
-upperPart arena prefix (At u) = some (keyPart arena prefix u)
-upperPart arena prefix Nothing = none
+-- a leaf's first word
 
 abbrev pub FirstOk : (arena : List ℕ) (prefix : ℕ) → LowKey → ℕ → Type 0
 FirstOk arena prefix low w = WordOk (length arena) (low .offset .0 + low .length) prefix w × (keyPart arena prefix low ≼ suffixAt arena w)

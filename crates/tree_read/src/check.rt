@@ -10,9 +10,11 @@ ghost use Rattle.order.specs.Bytes.{_≺_};
 ghost use Rattle.model.specs.Leaves.{Under};
 ghost use Rattle.layout.specs.Buffers.{suffixAt};
 ghost use Rattle.words.specs.Words.{wordSuffix, wordValue};
+ghost use Rattle.leaf.specs.Keys.{KeyAt, UpperAt, upperPart};
 ghost use Rattle.tree_read.specs.Check.{WordOk, wordEnd};
-ghost use Rattle.tree_read.specs.CheckCode.{Shaped, LowWordOk, LowRead, Follows, NextAt, Rested, RestRead, KeyAt, UpperAt, upperPart, FirstOk, PairsAt, PairsRead};
+ghost use Rattle.tree_read.specs.CheckCode.{Shaped, LowWordOk, LowRead, Follows, NextAt, Rested, RestRead, FirstOk, PairsAt, PairsRead};
 use leaf::Leaf;
+use leaf::Upper;
 use order::Ordering;
 use order::compare;
 use words::LowKey;
@@ -28,12 +30,6 @@ use words::unpack_slot;
 pub enum Low {
     Read(LowKey),
     Unsound,
-}
-
-// A leaf's upper key is the next leaf's low key; the last leaf has none.
-pub enum Upper {
-    At(LowKey),
-    Nothing,
 }
 
 // Where a leaf's last part ends, and its charge.

@@ -1,6 +1,7 @@
 -- `last_ok` meets its contract.
 -- Assumes nothing.
-use Rattle.tree_read.proofs.Steps.{last-free, last-below, upper-key}
+use Rattle.tree_read.proofs.Steps.{last-free, last-below}
+use Rattle.leaf.specs.KeyLaws.{upper-key}
 use native.Mathlib.Omega.{arith}
 use borrow.Author.Needs.{needs}
 use Rattle.tree_read.proofs.check.last_ok.Statement.{statement}
@@ -25,13 +26,13 @@ unpack-slot-requires : tie.Need-unpack-slot-requires
 unpack-slot-requires c κs = search needs
 
 add-t10 : tie.Need-add-t10
-add-t10 c = omega (arith, upper-key _ _ 0 (c .before .before .before .before .before .upper .given .1) (c .before .before .before .before .before .before .before .before .before .pre .2))
+add-t10 c = omega (arith, upper-key _ _ (c .before .before .before .before .before .upper .given .1) (c .before .before .before .before .before .before .before .before .before .pre .2))
 
 sub-below : tie.Need-sub-below
-sub-below c = omega (arith, upper-key _ _ 0 (c .before .before .before .before .before .before .upper .given .1) (c .before .before .before .before .before .before .before .before .before .before .pre .2))
+sub-below c = omega (arith, upper-key _ _ (c .before .before .before .before .before .before .upper .given .1) (c .before .before .before .before .before .before .before .before .before .before .pre .2))
 
 below-requires : tie.Need-below-requires
-below-requires c κs = (omega (arith, c .before .before .before .before .before .before .before .before .before .before .pre .1, c .before .before .before .unpack-slot .ensures), omega (arith, upper-key _ _ 0 (c .before .before .before .before .before .before .upper .given .1) (c .before .before .before .before .before .before .before .before .before .before .pre .2)))
+below-requires c κs = (omega (arith, c .before .before .before .before .before .before .before .before .before .before .pre .1, c .before .before .before .unpack-slot .ensures), omega (arith, upper-key _ _ (c .before .before .before .before .before .before .upper .given .1) (c .before .before .before .before .before .before .before .before .before .before .pre .2)))
 
 returns-2 : tie.Need-returns-2
 returns-2 c = last-below _ _ _ (c .before .before .before .before .before .before .before .upper .given .1) (c .before .before .before .before .unpack-slot .ensures) (c .below .ensures)
