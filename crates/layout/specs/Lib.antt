@@ -11,3 +11,12 @@ pub mod Encode
 pub mod Encoded
 pub mod EncodedFits
 pub mod Existence
+pub mod FrameLaws
+pub mod AroundLaws
+pub mod RegionLaws
+pub mod EditLaws
+pub mod SlotLaws
+pub mod SlideLaws
+pub mod ShiftLaws
+pub mod DirectoryLaws
+pub mod UsedLaws

@@ -1,21 +1,23 @@
 -- What the functions of the test of W promise, each by the statement that it decides.
 use Prim.Native.Nat.{_+_, _-_, _^_, _≤_, ℕ, _*_, _<_}
 use mathlib.Core.List.{List}
+use mathlib.Core.Option.{Option}
 use mathlib.Core.Path.{_≡_}
-use lib.ListN.{getD, length}
-use Rattle.layout.specs.Buffers.{suffixAt, Buffers, lowWord}
-use Rattle.leaf.specs.Keys.{KeyAt, UpperAt, keyPart, upperPart}
+use lib.ListN.{drop, getD, length}
+use Rattle.layout.specs.Buffers.{lowAt, slotWords, suffixAt, Buffers, lowWord}
+use Rattle.leaf.specs.Keys.{upperAt, KeyAt, UpperAt, keyPart, upperPart}
 use Rattle.leaf.specs.declared.Upper.{Upper}
 use Rattle.lists.specs.Part.{part}
+use Rattle.model.specs.Leaves.{Under, prefixLength}
 use Rattle.model.specs.Limits.{keyLimit}
-use Rattle.order.specs.Bytes.{_≼_, _≺_}
-use Rattle.tree_read.specs.Check.{PairsOk, RunPairs, endAfter, wordsCharge, WordOk, wordEnd, LowOk}
+use Rattle.order.specs.Bytes.{Bytes, _≼_, _≺_}
+use Rattle.tree_read.specs.Check.{NotEmpty, behind, leafCharge, leafEnd, lowEnd, PairsOk, RunPairs, endAfter, wordsCharge, WordOk, wordEnd, LowOk}
 use Rattle.tree_read.specs.declared.check.Low.{Low}
 use Rattle.tree_read.specs.declared.check.Low.the-variants.{Read, Unsound}
 use Rattle.tree_read.specs.declared.check.Pass.{Pass}
 use Rattle.tree_read.specs.declared.check.Pass.the-variants.{Failed, Sound}
 use Rattle.tree_read.specs.declared.check.Sum.{Sum}
-use Rattle.words.specs.Words.{wordOffset, wordSuffix, wordValue, LowKeyUnpacked}
+use Rattle.words.specs.Words.{firstSlot, wordCount, wordLeaf, wordOffset, wordSuffix, wordValue, LowKeyUnpacked}
 use Rattle.words.specs.declared.LowKey.{LowKey}
 
 abbrev pub lent : (fanout : ℕ) (slots arena : List ℕ) → Buffers
@@ -95,3 +97,28 @@ pub record PairsSum (slots : List ℕ) (first count prefix : ℕ) (low : LowKey)
 abbrev pub PairsRead : (slots arena : List ℕ) (first count prefix : ℕ) → LowKey → Upper → Pass → Type 0
 PairsRead slots arena first count prefix low upper (Sound s) = PairsOkAt slots arena first count prefix low upper × PairsSum slots first count prefix low s
 PairsRead slots arena first count prefix low upper Failed = PairsOkAt slots arena first count prefix low upper → ⊥
+
+-- a leaf of the directory word d, in the pool, whose low key and upper key are read
+
+pub record LeafAt (fanout : ℕ) (slots arena : List ℕ) (d : ℕ) (low : LowKey) (upper : Upper) : Type 0 where
+  pub in-slots : firstSlot fanout (wordLeaf d) + fanout ≤ length slots
+  pub low-is : LowKeyUnpacked (lowWord (lent fanout slots arena) d) low
+  pub low-at : KeyAt arena 0 low
+  pub upper-at : UpperAt arena 0 upper
+
+-- what is left of `LeafOk` then
+pub record LeafRest (b : Buffers) (end d : ℕ) (upper : Option Bytes) : Type 0 where
+  pub after : end ≤ wordOffset (lowWord b d)
+  pub under : Under upper (lowAt b d)
+  pub count : wordCount d < b .fanout
+  pub not-empty : NotEmpty upper (wordCount d)
+  pub pairs : PairsOk (b .arena) (prefixLength (lowAt b d) upper) (lowEnd b d) (drop (prefixLength (lowAt b d) upper) (lowAt b d)) (behind (prefixLength (lowAt b d) upper) upper) (slotWords b d)
+
+pub record LeafSum (b : Buffers) (d : ℕ) (upper : Option Bytes) (s : Sum) : Type 0 where
+  pub end-is : s .end ≡ leafEnd b d
+  pub charge-is : s .charge ≡ leafCharge b d upper
+  pub charge-few : s .charge < 2 ^ 46
+
+abbrev pub LeafRead : (fanout : ℕ) (slots arena : List ℕ) (d : ℕ) → LowKey → Upper → (end : ℕ) → Pass → Type 0
+LeafRead fanout slots arena d low upper end (Sound s) = LeafRest (lent fanout slots arena) end d (upperAt arena upper) × LeafSum (lent fanout slots arena) d (upperAt arena upper) s
+LeafRead fanout slots arena d low upper end Failed = LeafRest (lent fanout slots arena) end d (upperAt arena upper) → ⊥

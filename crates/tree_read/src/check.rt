@@ -1,7 +1,7 @@
 // The test of W: one pass over the directory and each leaf's words, with a running end in the arena and no scratch memory. Nothing is
 // read before its place is tested, and no sum can overflow, whatever header and buffers come in.
 ghost use mathlib.Core.Path.{_≡_};
-ghost use mathlib.Core.List.{_∷_};
+ghost use mathlib.Core.List.{List};
 ghost use Prim.Native.Nat.{ℕ, _+_, _-_, _*_, _^_, _≤_, _<_};
 ghost use lib.ListN.{length, getD, take, drop};
 ghost use Rattle.lists.specs.Exact.{Exact};
@@ -10,20 +10,23 @@ ghost use Rattle.order.specs.Bytes.{_≺_};
 ghost use Rattle.model.specs.Leaves.{Under};
 ghost use Rattle.layout.specs.Buffers.{suffixAt};
 ghost use Rattle.words.specs.Words.{wordSuffix, wordValue};
-ghost use Rattle.leaf.specs.Keys.{KeyAt, UpperAt, upperPart};
-ghost use Rattle.tree_read.specs.Check.{WordOk, wordEnd};
-ghost use Rattle.tree_read.specs.CheckCode.{Shaped, LowWordOk, LowRead, Follows, NextAt, Rested, RestRead, FirstOk, PairsAt, PairsRead};
+ghost use Rattle.leaf.specs.Keys.{KeyAt, keyAt, UpperAt, upperAt, upperPart};
+ghost use Rattle.tree_read.specs.Check.{WordOk, wordEnd, NotEmpty};
+ghost use Rattle.tree_read.specs.CheckCode.{Shaped, LowWordOk, LowRead, Follows, NextAt, Rested, RestRead, FirstOk, PairsAt, PairsRead, LeafAt, LeafRead};
 use leaf::Leaf;
 use leaf::Upper;
+use leaf::prefix_length;
 use order::Ordering;
 use order::compare;
 use words::LowKey;
 use words::Offset;
 use words::Slot;
 use words::SlotNo;
+use words::first_slot;
 use words::is_low_key;
 use words::leaf_number;
 use words::low_key_slot;
+use words::pair_count;
 use words::unpack_low_key;
 use words::unpack_slot;
 
@@ -237,4 +240,64 @@ fn check_pairs(
         return Pass::Failed;
     }
     Pass::Sound(sum)
+}
+
+// L1: whether a leaf's low key is below its upper key.
+fn low_below(arena: &[u8], low: LowKey, upper: Upper) -> bool
+    requires { ⌜ KeyAt (now arena) 0 low × UpperAt (now arena) 0 upper ⌝ }
+    ensures { λ r. ⌜ Exact r (Under (upperAt (now (arena .entry)) upper) (keyAt (now (arena .entry)) low)) ⌝ }
+{
+    let Upper::At(u) = upper else {
+        return true;
+    };
+    let from = low.offset;
+    let to = u.offset;
+    below(arena, from, low.length, to, u.length)
+}
+
+// Only the last leaf may be empty.
+fn not_empty(upper: Upper, count: usize) -> bool
+    ensures { λ r. ⌜ ((arena : List ℕ) → Exact r (NotEmpty (upperAt arena upper) count)) ⌝ }
+{
+    let Upper::At(_) = upper else {
+        return true;
+    };
+    0 < count
+}
+
+// A leaf whose low key and upper key are read, its parts from `end` on.
+fn check_leaf(
+    fanout: usize,
+    slots: &[u64],
+    arena: &[u8],
+    d: u32,
+    low: LowKey,
+    upper: Upper,
+    end: usize,
+) -> Pass
+    requires { ⌜ LeafAt fanout (now slots) (now arena) d low upper ⌝ }
+    ensures { λ r. ⌜ LeafRead fanout (now (slots .entry)) (now (arena .entry)) d low upper end r ⌝ }
+{
+    if low.offset.0 < end {
+        return Pass::Failed;
+    }
+    if !low_below(arena, low, upper) {
+        return Pass::Failed;
+    }
+    let count = pair_count(d);
+    if fanout <= count {
+        return Pass::Failed;
+    }
+    if !not_empty(upper, count) {
+        return Pass::Failed;
+    }
+    let prefix = prefix_length(arena, low, upper);
+    let first = first_slot(fanout, leaf_number(d));
+    let Pass::Sound(sum) = check_pairs(slots, arena, first, count, prefix, low, upper) else {
+        return Pass::Failed;
+    };
+    Pass::Sound(Sum {
+        end: sum.end,
+        charge: sum.charge + low.length,
+    })
 }
