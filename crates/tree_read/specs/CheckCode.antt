@@ -3,19 +3,25 @@ use Prim.Native.Nat.{_+_, _-_, _^_, _≤_, ℕ, _*_, _<_}
 use mathlib.Core.List.{List}
 use mathlib.Core.Option.{Option}
 use mathlib.Core.Path.{_≡_}
-use lib.ListN.{drop, getD, length}
+use lib.ListN.{take, drop, getD, length}
 use Rattle.layout.specs.Buffers.{lowAt, slotWords, suffixAt, Buffers, lowWord}
 use Rattle.leaf.specs.Keys.{upperAt, KeyAt, UpperAt, keyPart, upperPart}
 use Rattle.leaf.specs.declared.Upper.{Upper}
+use Rattle.leaf.specs.declared.Upper.the-variants.{At, Nothing}
 use Rattle.lists.specs.Part.{part}
 use Rattle.model.specs.Leaves.{Under, prefixLength}
 use Rattle.model.specs.Limits.{keyLimit}
 use Rattle.order.specs.Bytes.{Bytes, _≼_, _≺_}
-use Rattle.tree_read.specs.Check.{NotEmpty, behind, leafCharge, leafEnd, lowEnd, PairsOk, RunPairs, endAfter, wordsCharge, WordOk, wordEnd, LowOk}
+use Rattle.tree_read.specs.Check.{LeafOk, RunLeaves, chargeOf, countOf, upperOf, NotEmpty, behind, leafCharge, leafEnd, lowEnd, PairsOk, RunPairs, endAfter, wordsCharge, WordOk, wordEnd, LowOk}
 use Rattle.tree_read.specs.declared.check.Low.{Low}
 use Rattle.tree_read.specs.declared.check.Low.the-variants.{Read, Unsound}
+use Rattle.tree_read.specs.declared.check.Next.{Next}
+use Rattle.tree_read.specs.declared.check.Next.the-variants.{Known, Unread}
 use Rattle.tree_read.specs.declared.check.Pass.{Pass}
 use Rattle.tree_read.specs.declared.check.Pass.the-variants.{Failed, Sound}
+use Rattle.tree_read.specs.declared.check.State.{State}
+use Rattle.tree_read.specs.declared.check.Step.{Step}
+use Rattle.tree_read.specs.declared.check.Step.the-variants.{Stopped, Went}
 use Rattle.tree_read.specs.declared.check.Sum.{Sum}
 use Rattle.words.specs.Words.{firstSlot, wordCount, wordLeaf, wordOffset, wordSuffix, wordValue, LowKeyUnpacked}
 use Rattle.words.specs.declared.LowKey.{LowKey}
@@ -122,3 +128,57 @@ pub record LeafSum (b : Buffers) (d : ℕ) (upper : Option Bytes) (s : Sum) : Ty
 abbrev pub LeafRead : (fanout : ℕ) (slots arena : List ℕ) (d : ℕ) → LowKey → Upper → (end : ℕ) → Pass → Type 0
 LeafRead fanout slots arena d low upper end (Sound s) = LeafRest (lent fanout slots arena) end d (upperAt arena upper) × LeafSum (lent fanout slots arena) d (upperAt arena upper) s
 LeafRead fanout slots arena d low upper end Failed = LeafRest (lent fanout slots arena) end d (upperAt arena upper) → ⊥
+
+-- the upper key of the leaf before the k-th
+
+abbrev pub NextRead : (fanout leaves : ℕ) (dir slots arena : List ℕ) (k : ℕ) → Next → Type 0
+NextRead fanout leaves dir slots arena k (Known Nothing) = leaves ≤ k
+NextRead fanout leaves dir slots arena k (Known (At u)) =
+    (k < leaves) × (LowOk (lent fanout slots arena) (length dir) (getD dir k 0) × LowKeyUnpacked (lowWord (lent fanout slots arena) (getD dir k 0)) u)
+NextRead fanout leaves dir slots arena k Unread = (k < leaves) × (LowOk (lent fanout slots arena) (length dir) (getD dir k 0) → ⊥)
+
+abbrev pub lowOfUpper : Upper → LowKey → LowKey
+lowOfUpper (At u) last = u
+lowOfUpper Nothing last = last
+
+-- one leaf after another
+
+pub record LowKnown (fanout pool : ℕ) (slots arena : List ℕ) (d : ℕ) (low : LowKey) : Type 0 where
+  pub ok : LowOk (lent fanout slots arena) pool d
+  pub is : LowKeyUnpacked (lowWord (lent fanout slots arena) d) low
+
+pub record StepAt (fanout leaves : ℕ) (dir slots arena : List ℕ) (j : ℕ) (s : State) : Type 0 where
+  pub shaped : Shaped fanout (length dir) slots
+  pub in-directory : leaves ≤ length dir
+  pub more : j < leaves
+  pub low-known : LowKnown fanout (length dir) slots arena (getD dir j 0) (s .low)
+  pub pairs-few : s .pairs < 2 ^ 62
+  pub charge-few : s .charge < 2 ^ 62
+
+pub record Stepped (fanout leaves : ℕ) (dir slots arena : List ℕ) (j : ℕ) (s t : State) : Type 0 where
+  pub leaf : LeafOk (lent fanout slots arena) (length dir) (s .end) (getD dir j 0) (upperOf (lent fanout slots arena) (drop (j + 1) (take leaves dir)))
+  pub end-is : t .end ≡ leafEnd (lent fanout slots arena) (getD dir j 0)
+  pub pairs-are : t .pairs ≡ s .pairs + wordCount (getD dir j 0)
+  pub charge-is : t .charge ≡ s .charge + leafCharge (lent fanout slots arena) (getD dir j 0) (upperOf (lent fanout slots arena) (drop (j + 1) (take leaves dir)))
+  pub charge-few : t .charge < s .charge + 2 ^ 46
+  pub next-known : j + 1 < leaves → LowKnown fanout (length dir) slots arena (getD dir (j + 1) 0) (t .low)
+
+abbrev pub StepRead : (fanout leaves : ℕ) (dir slots arena : List ℕ) (j : ℕ) → State → Step → Type 0
+StepRead fanout leaves dir slots arena j s (Went t) = Stepped fanout leaves dir slots arena j s t
+StepRead fanout leaves dir slots arena j s Stopped = RunLeaves (lent fanout slots arena) (length dir) (s .end) (drop j (take leaves dir)) → ⊥
+
+-- all leaves
+
+pub record LeavesAt (fanout leaves : ℕ) (dir slots arena : List ℕ) (low : LowKey) : Type 0 where
+  pub shaped : Shaped fanout (length dir) slots
+  pub in-directory : leaves ≤ length dir
+  pub few : leaves ≤ 2 ^ 12
+  pub low-known : LowKnown fanout (length dir) slots arena (getD dir 0 0) low
+
+pub record LeavesSum (fanout leaves : ℕ) (dir slots arena : List ℕ) (s : State) : Type 0 where
+  pub pairs-are : s .pairs ≡ countOf (take leaves dir)
+  pub charge-is : s .charge ≡ chargeOf (lent fanout slots arena) (take leaves dir)
+
+abbrev pub LeavesRead : (fanout leaves : ℕ) (dir slots arena : List ℕ) → Step → Type 0
+LeavesRead fanout leaves dir slots arena (Went s) = RunLeaves (lent fanout slots arena) (length dir) 0 (take leaves dir) × LeavesSum fanout leaves dir slots arena s
+LeavesRead fanout leaves dir slots arena Stopped = RunLeaves (lent fanout slots arena) (length dir) 0 (take leaves dir) → ⊥

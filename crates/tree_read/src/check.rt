@@ -10,9 +10,12 @@ ghost use Rattle.order.specs.Bytes.{_≺_};
 ghost use Rattle.model.specs.Leaves.{Under};
 ghost use Rattle.layout.specs.Buffers.{suffixAt};
 ghost use Rattle.words.specs.Words.{wordSuffix, wordValue};
+ghost use Rattle.layout.specs.Lays.{W};
 ghost use Rattle.leaf.specs.Keys.{KeyAt, keyAt, UpperAt, upperAt, upperPart};
 ghost use Rattle.tree_read.specs.Check.{WordOk, wordEnd, NotEmpty};
-ghost use Rattle.tree_read.specs.CheckCode.{Shaped, LowWordOk, LowRead, Follows, NextAt, Rested, RestRead, FirstOk, PairsAt, PairsRead, LeafAt, LeafRead};
+ghost use Rattle.tree_read.specs.CheckCode.{Shaped, LowWordOk, LowRead, Follows, NextAt, Rested, RestRead, FirstOk, PairsAt, PairsRead, LeafAt, LeafRead, NextRead, lowOfUpper, StepAt, StepRead, LeavesAt, LeavesRead};
+use crate::sizes::sizes_met;
+use layout::Header;
 use leaf::Leaf;
 use leaf::Upper;
 use leaf::prefix_length;
@@ -44,6 +47,24 @@ pub struct Sum {
 pub enum Pass {
     Sound(Sum),
     Failed,
+}
+
+pub enum Next {
+    Known(Upper),
+    Unread,
+}
+
+// What the leaves so far add up to, and the low key of the leaf that comes next.
+pub struct State {
+    pub low: LowKey,
+    pub end: usize,
+    pub pairs: usize,
+    pub charge: usize,
+}
+
+pub enum Step {
+    Went(State),
+    Stopped,
 }
 
 // Whether a word is a low key's, within limits and inside the arena.
@@ -300,4 +321,126 @@ fn check_leaf(
         end: sum.end,
         charge: sum.charge + low.length,
     })
+}
+
+// The upper key of the leaf before the k-th: the k-th leaf's low key, or none.
+fn read_upper(
+    fanout: usize,
+    leaves: usize,
+    dir: &[u32],
+    slots: &[u64],
+    arena: &[u8],
+    k: usize,
+) -> Next
+    requires { ⌜ Shaped fanout (length (now dir)) (now slots) × (leaves ≤ length (now dir)) ⌝ }
+    ensures { λ r. ⌜ NextRead fanout leaves (now (dir .entry)) (now (slots .entry)) (now (arena .entry)) k r ⌝ }
+{
+    if leaves <= k {
+        return Next::Known(Upper::Nothing);
+    }
+    let Low::Read(u) = read_low(fanout, dir.len(), slots, arena, dir[k]) else {
+        return Next::Unread;
+    };
+    Next::Known(Upper::At(u))
+}
+
+fn low_of(upper: Upper, last: LowKey) -> LowKey
+    ensures { λ r. ⌜ r ≡ lowOfUpper upper last ⌝ }
+{
+    let Upper::At(u) = upper else {
+        return last;
+    };
+    u
+}
+
+// The j-th leaf.
+fn check_next(
+    fanout: usize,
+    leaves: usize,
+    dir: &[u32],
+    slots: &[u64],
+    arena: &[u8],
+    j: usize,
+    s: State,
+) -> Step
+    requires { ⌜ StepAt fanout leaves (now dir) (now slots) (now arena) j s ⌝ }
+    ensures { λ r. ⌜ StepRead fanout leaves (now (dir .entry)) (now (slots .entry)) (now (arena .entry)) j s r ⌝ }
+{
+    let d = dir[j];
+    let low = s.low;
+    let Next::Known(upper) = read_upper(fanout, leaves, dir, slots, arena, j + 1) else {
+        return Step::Stopped;
+    };
+    let Pass::Sound(sum) = check_leaf(fanout, slots, arena, d, low, upper, s.end) else {
+        return Step::Stopped;
+    };
+    let next = low_of(upper, low);
+    Step::Went(State {
+        low: next,
+        end: sum.end,
+        pairs: s.pairs + pair_count(d),
+        charge: s.charge + sum.charge,
+    })
+}
+
+// All leaves, the first one's low key read.
+fn check_leaves(
+    fanout: usize,
+    leaves: usize,
+    dir: &[u32],
+    slots: &[u64],
+    arena: &[u8],
+    low: LowKey,
+) -> Step
+    requires { ⌜ LeavesAt fanout leaves (now dir) (now slots) (now arena) low ⌝ }
+    ensures { λ r. ⌜ LeavesRead fanout leaves (now (dir .entry)) (now (slots .entry)) (now (arena .entry)) r ⌝ }
+{
+    let mut s = State {
+        low: low,
+        end: 0,
+        pairs: 0,
+        charge: 0,
+    };
+    let mut j = 0;
+    while j < leaves {
+        let Step::Went(t) = check_next(fanout, leaves, dir, slots, arena, j, s) else {
+            return Step::Stopped;
+        };
+        s = t;
+        j += 1;
+    }
+    Step::Went(s)
+}
+
+// W: true exactly where header and buffers hold an index.
+pub fn holds_index(h: Header, dir: &[u32], slots: &[u64], arena: &[u8]) -> bool
+    ensures { λ r. ⌜ Exact r (W h (now (dir .entry)) (now (slots .entry)) (now (arena .entry))) ⌝ }
+{
+    let fanout = h.fanout;
+    let leaves = h.leaves;
+    if !sizes_met(fanout, dir.len(), slots.len(), arena.len()) {
+        return false;
+    }
+    if leaves == 0 {
+        return false;
+    }
+    if dir.len() < leaves {
+        return false;
+    }
+    let Low::Read(low) = read_low(fanout, dir.len(), slots, arena, dir[0]) else {
+        return false;
+    };
+    if low.length != 0 {
+        return false;
+    }
+    let Step::Went(s) = check_leaves(fanout, leaves, dir, slots, arena, low) else {
+        return false;
+    };
+    if h.pairs != s.pairs {
+        return false;
+    }
+    if h.charge != s.charge {
+        return false;
+    }
+    s.charge <= arena.len()
 }

@@ -1,2 +1,3 @@
 // The calls that read an index, and the test of W that every call begins with.
-mod check;
+pub mod check;
+pub mod sizes;
