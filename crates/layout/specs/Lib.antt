@@ -20,3 +20,4 @@ pub mod SlideLaws
 pub mod ShiftLaws
 pub mod DirectoryLaws
 pub mod UsedLaws
+pub mod Entry

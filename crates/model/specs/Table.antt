@@ -15,11 +15,11 @@ pub data Row : Type 0 where
   prefixes : (low : Bytes) (upper : Option Bytes) (prefix : ℕ) → Row
   ends : (prefix : Bytes) (end : Option Bytes) → Row
 
-abbrev pub Holds : Row → Type 0
-Holds (separators l r s) = separator l r ≡ s
-Holds (offsets n low upper o) = splitOffset n low upper ≡ o
-Holds (prefixes low upper c) = prefixLength low upper ≡ c
-Holds (ends p e) = prefixEnd p ≡ e
+abbrev pub Claims : Row → Type 0
+Claims (separators l r s) = separator l r ≡ s
+Claims (offsets n low upper o) = splitOffset n low upper ≡ o
+Claims (prefixes low upper c) = prefixLength low upper ≡ c
+Claims (ends p e) = prefixEnd p ≡ e
 
 abbrev pub table : List Row
 table =
@@ -41,7 +41,7 @@ table =
     ∷ ends [] none
     ∷ []
 
-pub examples : All Holds table
+pub examples : All Claims table
 unfolding separator common prefixEnd
 examples =
     (refl, (refl, (refl, (refl, (refl, (refl, (refl, (refl, (refl, (refl, (refl, (refl, (refl, (refl, (refl, (refl, tt))))))))))))))))

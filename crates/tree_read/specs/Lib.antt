@@ -4,3 +4,4 @@ pub mod PairCheck
 pub mod LeafCheck
 pub mod RunCheck
 pub mod WCheck
+pub mod Decided
