@@ -1,7 +1,7 @@
 -- What the words of the slot buffer and the directory stand for: bytes of the arena, pairs, low keys.
 use Prim.Native.Nat.{ℕ, _+_}
-use mathlib.Core.List.{List, [], _∷_, _++_}
-use lib.ListN.{getD, take}
+use mathlib.Core.List.{List, _++_}
+use lib.ListN.{getD}
 use Rattle.lists.specs.Part.{part}
 use Rattle.order.specs.Bytes.{Bytes}
 use Rattle.words.specs.Words.{wordOffset, wordSuffix, wordValue, wordLeaf, wordCount, firstSlot, lowKeySlot}

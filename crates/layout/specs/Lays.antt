@@ -1,9 +1,8 @@
 -- Buffers that lay out a leaf list; buffers and header that hold one; and W.
-use Prim.Native.Nat.{ℕ, _≤_}
+use Prim.Native.Nat.{ℕ}
 use mathlib.Core.List.{List, [], _∷_, map}
 use mathlib.Core.Path.{_≡_}
 use lib.ListN.{length, take}
-use Rattle.lists.specs.All.{All}
 use Rattle.words.specs.Words.{wordValue, wordLeaf, wordCount}
 use Rattle.model.specs.Leaves.{Node, lowOf, pairsOf, prefixLength}
 use Rattle.model.specs.Charge.{charge}

@@ -9,7 +9,6 @@ use lib.ListN.{length}
 use Rattle.layout.specs.Order.{Extent, InOrder}
 use Rattle.lists.specs.All.{All, all-append, all-mono}
 use Rattle.lists.specs.Part.{part, part-put-after, part-put-before, put}
-use Rattle.model.specs.Place.{at}
 
 -- where the last part ends
 abbrev pub endOf : ℕ → List Extent → ℕ

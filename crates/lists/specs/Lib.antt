@@ -4,4 +4,3 @@ pub mod Fill
 pub mod Shift
 pub mod Map
 pub mod Exact
-pub mod First

@@ -3,11 +3,11 @@
 -- Assumes nothing.
 use mathlib.Core.Path.{_≡_, refl, sym, ap, _∙_}
 use mathlib.Core.List.{List, map}
-use Prim.Native.Nat.{ℕ, suc, _+_, _-_, _≤_, _<_}
+use Prim.Native.Nat.{ℕ, _+_, _≤_, _<_}
 use native.Mathlib.Omega.{arith}
 use lib.ListN.{length, getD, set, length-map, List·getD-map}
 use Rattle.lists.specs.Part.{part, put, length-part, getD-part}
-use Rattle.lists.specs.Fill.{Filling, fill-start, fill-read, fill-step, fill-done, Backing, back-start, back-read, back-step, back-done}
+use Rattle.lists.specs.Fill.{Filling, fill-read, fill-step, fill-done, Backing, back-start, back-read, back-step}
 
 module _ {A : Type 0} (l : List A) (from n to : ℕ) where
   -- up, from the back

@@ -12,7 +12,7 @@ use Rattle.model.specs.declared.Bound.the-variants.{Included, Excluded, 
 use Rattle.model.specs.declared.Range.{Range}
 use Rattle.model.specs.declared.Refusal.{Refusal}
 use Rattle.model.specs.declared.Refusal.the-variants.{Shape, Damaged, LongKey, LongValue, ShortOutput, InvertedRange, NoLeaf, NoRoom}
-use Rattle.model.specs.Map.{Pair, by, lookup, put, remove, firstIn}
+use Rattle.model.specs.Map.{Pair, by, lookup, put, firstIn}
 use Rattle.model.specs.Leaves.{Node, lowOf, pairsOf, prefixLength, owned}
 use Rattle.model.specs.Rules.{insertRule, removeRule, clearRule, fresh}
 use Rattle.model.specs.Charge.{charge}

@@ -1,7 +1,6 @@
 -- L9: the charge of a leaf list, and the bytes that the arena then stores.
 use Prim.Native.Nat.{ℕ, _+_, _-_}
 use mathlib.Core.List.{List, [], _∷_}
-use mathlib.Core.Option.{Option, none, some}
 use lib.ListN.{length}
 use Rattle.model.specs.Map.{Pair}
 use Rattle.model.specs.Leaves.{Node, lowOf, prefixLength}

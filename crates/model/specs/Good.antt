@@ -1,7 +1,7 @@
 -- What W asks of a leaf list, in three parts: `Tiles`, `Filled`, `Fits`. (What it asks of words and bytes is said where they are.)
 use Prim.Native.Nat.{ℕ, _≤_, _<_}
 use mathlib.Core.List.{List, [], _∷_}
-use mathlib.Core.Option.{Option, none, some}
+use mathlib.Core.Option.{Option, some}
 use mathlib.Core.Path.{_≡_}
 use lib.ListN.{length}
 use Rattle.lists.specs.All.{All}

@@ -32,3 +32,4 @@ pub mod FitsLaws
 pub mod Sizing
 pub mod SizingRuns
 pub mod LimitLaws
+pub mod GoodLaws

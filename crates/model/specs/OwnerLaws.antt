@@ -1,5 +1,4 @@
--- Which leaf owns a key: every key has exactly one, by place in the list; a rule at the owner is an edit at that place; and a key in a
--- leaf's span begins with the leaf's prefix (L1, L2).
+-- Which leaf owns a key: every key has exactly one, by place in the list; and a rule at the owner is an edit at that place (L1).
 -- Assumes nothing.
 use Prim.Native.Nat.{_<_, suc, zero, ℕ}
 use mathlib.Core.List.{List, [], _++_, _∷_}

@@ -1,11 +1,9 @@
 -- The range of a prefix: from the prefix, included, to an excluded end or an open one.
 use Prim.Native.Nat.{ℕ, suc}
 use mathlib.Core.Bool.{cond}
-use mathlib.Core.List.{List, [], _∷_}
+use mathlib.Core.List.{[], _∷_}
 use mathlib.Core.Option.{Option, none, some}
-use mathlib.Core.Path.{_≡_}
 use lib.Dec.{eqb}
-use lib.ListN.{length, take}
 use Rattle.order.specs.Bytes.{Bytes}
 use Rattle.model.specs.declared.Bound.the-variants.{Included, Excluded, Open}
 use Rattle.model.specs.declared.Range.{Range}
@@ -22,7 +20,3 @@ prefixEnd (x ∷ p) = raised x (prefixEnd p)
 abbrev pub prefixRange : Option Bytes → Range
 prefixRange none = record { start = Included; end = Open }
 prefixRange (some e) = record { start = Included; end = Excluded }
-
--- k begins with p
-abbrev pub Begins : Bytes → Bytes → Type 0
-Begins p k = take (length p) k ≡ p

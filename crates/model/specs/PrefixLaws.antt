@@ -8,7 +8,6 @@ use lib.ListN.{drop, length, take}
 use Rattle.model.specs.Leaves.{Spans, prefixLength}
 use Rattle.order.specs.Bytes.{Bytes, cmp}
 use Rattle.order.specs.CommonLaws.{cmp-suffixes, common-left, squeeze, squeeze-long}
-use Rattle.order.specs.OrderLaws.{upper}
 
 module _ (low : Bytes) where
   pub span-prefix : (upper : Option Bytes) (k : Bytes) → Spans low upper k → take (prefixLength low upper) k ≡ take (prefixLength low upper) low

@@ -1,17 +1,20 @@
--- Document 01's whole run, A5 and A6, computed on the definitions: the answers, and the leaf list after each.
+-- Document 01's whole run and A4 to A10, as far as leaf lists tell them, computed on the definitions.
 -- Assumes nothing.
 use Prim.Native.Nat.{ℕ}
-use mathlib.Core.Bool.{true}
+use mathlib.Core.Bool.{false, true}
 use mathlib.Core.List.{List, [], _∷_}
 use mathlib.Core.Option.{Option, none, some}
 use mathlib.Core.Path.{_≡_, refl}
-use Rattle.model.specs.Answers.{Answer, Changed, Shown, accepted, getAnswer, insertAnswer, refused, shown}
+use lib.ListN.{replicate}
+use Rattle.model.specs.Answers.{Answer, Changed, Shown, accepted, containsAnswer, firstAnswer, getAnswer, getGtAnswer, insertAnswer, leafAt, longKey, longValue, prefixAnswer, rangeAnswer, refused, removeAnswer, shown}
 use Rattle.model.specs.Charge.{charge, weight}
 use Rattle.model.specs.Leaves.{Node, atOwner, lowOf, owned}
 use Rattle.model.specs.Limits.{keyLimit, valueLimit}
-use Rattle.model.specs.Map.{lookup, put, remove}
+use Rattle.model.specs.Map.{firstIn, lookup, pair, put, remove}
+use Rattle.model.specs.Prefix.{prefixEnd}
 use Rattle.model.specs.Rules.{cutKey, freeFrom, fresh, halves, insertHere, insertRule, lowestFree, mergeFrom, removeHere, removeRule, splitIfFull, used}
-use Rattle.model.specs.declared.Refusal.the-variants.{NoLeaf, NoRoom}
+use Rattle.model.specs.declared.Bound.the-variants.{Excluded, Included, Open}
+use Rattle.model.specs.declared.Refusal.the-variants.{InvertedRange, LongKey, NoLeaf, NoRoom, ShortOutput}
 use Rattle.order.specs.Bytes.{Bytes, cmp, common, separator}
 
 -- one byte, as a string
@@ -77,3 +80,98 @@ a6-no-leaf = refl
 a6-no-leaf-first : third 1 6 ≡ refused NoLeaf
 unfolding three two charge weight insertRule lowestFree freeFrom used insertHere splitIfFull halves cutKey atOwner owned put lookup cmp separator common keyLimit valueLimit
 a6-no-leaf-first = refl
+
+-- the run's and A5's answers, as calls
+
+run-first : insertAnswer 3 4 64 (byte 0x61) (byte 0x01) 0 fresh ≡ accepted (record { old = none; nodes = insertRule 3 (byte 0x61) (byte 0x01) fresh })
+unfolding charge weight insertRule lowestFree freeFrom used insertHere splitIfFull halves cutKey atOwner owned put lookup cmp separator common keyLimit valueLimit
+run-first = refl
+
+a5-old : removeAnswer true (byte 0x62) 1 three ≡ accepted (record { old = some (byte 0x02); nodes = removeRule true (byte 0x62) three })
+unfolding three two insertRule lowestFree freeFrom used insertHere splitIfFull halves cutKey atOwner put remove removeRule removeHere mergeFrom lookup cmp separator common keyLimit
+a5-old = refl
+
+-- A7, on the lengths
+
+a7-key : (longKey (replicate 512 0) ≡ false) × (longKey (replicate 513 0) ≡ true)
+unfolding keyLimit
+a7-key = (refl, refl)
+
+a7-value : (longValue (replicate 65535 0) ≡ false) × (longValue (replicate 65536 0) ≡ true)
+unfolding valueLimit
+a7-value = (refl, refl)
+
+a7-first : insertAnswer 3 4 64 (replicate 513 0) (replicate 65536 0) 0 fresh ≡ refused LongKey
+unfolding keyLimit
+a7-first = refl
+
+-- A8
+
+a8-short : insertAnswer 3 4 64 (byte 0x61) (byte 0x03) 1 (insertRule 3 (byte 0x61) (0x01 ∷ 0x02 ∷ []) fresh) ≡ refused (ShortOutput 2)
+unfolding insertRule lowestFree freeFrom used insertHere splitIfFull atOwner owned put lookup cmp keyLimit valueLimit
+a8-short = refl
+
+-- A9
+
+a9-inverted : rangeAnswer (record { start = Included; end = Included }) (byte 0x62) (byte 0x61) 0 three ≡ refused InvertedRange
+unfolding cmp keyLimit
+a9-inverted = refl
+
+a9-excluded : rangeAnswer (record { start = Excluded; end = Excluded }) (byte 0x62) (byte 0x61) 0 three ≡ refused InvertedRange
+unfolding cmp keyLimit
+a9-excluded = refl
+
+a9-end : rangeAnswer (record { start = Excluded; end = Excluded }) (byte 0x62) (byte 0x62) 0 three ≡ accepted none
+unfolding three two insertRule lowestFree freeFrom used insertHere splitIfFull halves cutKey atOwner put firstIn cmp separator common keyLimit
+a9-end = refl
+
+a9-one : rangeAnswer (record { start = Included; end = Included }) (byte 0x62) (byte 0x62) 1 three ≡ accepted (some (pair (byte 0x62) (byte 0x02)))
+unfolding three two insertRule lowestFree freeFrom used insertHere splitIfFull halves cutKey atOwner put firstIn cmp separator common keyLimit
+a9-one = refl
+
+a9-short : rangeAnswer (record { start = Included; end = Included }) (byte 0x62) (byte 0x62) 0 three ≡ refused (ShortOutput 1)
+unfolding three two insertRule lowestFree freeFrom used insertHere splitIfFull halves cutKey atOwner put firstIn cmp separator common keyLimit
+a9-short = refl
+
+-- A4 as a call: 61ff fits one byte
+
+a4-call : prefixAnswer (0x61 ∷ 0xff ∷ []) 1 ≡ accepted (record { range = record { start = Included; end = Excluded }; end = some (byte 0x62) })
+unfolding prefixEnd keyLimit
+a4-call = refl
+
+a4-open : prefixAnswer (byte 0xff) 0 ≡ accepted (record { range = record { start = Included; end = Open }; end = none })
+unfolding prefixEnd keyLimit
+a4-open = refl
+
+-- A10's leaf: prefix length 1
+
+a10-leaf : leafAt 1 (insertRule 3 (0x61 ∷ 0x64 ∷ []) [] (insertRule 3 (0x61 ∷ 0x63 ∷ []) [] (insertRule 3 (0x61 ∷ 0x61 ∷ 0x61 ∷ []) [] (insertRule 3 (0x61 ∷ 0x60 ∷ []) [] fresh)))) ≡ some (line (0x61 ∷ 0x61 ∷ []) (some (0x61 ∷ 0x63 ∷ [])) 1 1)
+unfolding insertRule lowestFree freeFrom used insertHere splitIfFull halves cutKey atOwner put cmp separator common
+a10-leaf = refl
+
+-- a replacement: the old value comes back; 5 is tested before 8
+
+one : List Node
+one = insertRule 3 (byte 0x61) (byte 0x01) fresh
+
+replaced : insertAnswer 3 4 64 (byte 0x61) (byte 0x02) 1 one ≡ accepted (record { old = some (byte 0x01); nodes = insertRule 3 (byte 0x61) (byte 0x02) one })
+unfolding one charge weight insertRule lowestFree freeFrom used insertHere splitIfFull atOwner owned put lookup cmp keyLimit valueLimit
+replaced = refl
+
+short-before-room : insertAnswer 3 4 2 (byte 0x61) (0x01 ∷ 0x02 ∷ []) 0 one ≡ refused (ShortOutput 1)
+unfolding one charge weight insertRule lowestFree freeFrom used insertHere splitIfFull atOwner owned put lookup cmp keyLimit valueLimit
+short-before-room = refl
+
+-- reading calls
+
+found : (containsAnswer (byte 0x61) one ≡ accepted true) × (containsAnswer (byte 0x62) one ≡ accepted false)
+unfolding one insertRule lowestFree freeFrom used insertHere splitIfFull atOwner put lookup cmp keyLimit
+found = (refl, refl)
+
+empty-key : (firstAnswer 0 (insertRule 3 [] [] fresh) ≡ accepted (some (pair [] []))) × (getGtAnswer [] 9 (insertRule 3 [] [] fresh) ≡ accepted none)
+unfolding insertRule lowestFree freeFrom used insertHere splitIfFull atOwner put firstIn cmp keyLimit
+empty-key = (refl, refl)
+
+long-get : getAnswer (replicate 513 0) fresh ≡ refused LongKey
+unfolding keyLimit
+long-get = refl

@@ -5,7 +5,7 @@ use Prim.Native.Nat.{ℕ}
 use mathlib.Core.Bool.{and-false, false, true≢false}
 use mathlib.Core.List.{List, [], _++_, _∷_}
 use mathlib.Core.Option.{Option, none, some}
-use mathlib.Core.Path.{_∙_, _≡_, refl}
+use mathlib.Core.Path.{_∙_, _≡_, refl, sym}
 use lib.ListN.{drop}
 use Rattle.lists.specs.All.{All, all-mono}
 use Rattle.model.specs.Answers.{bothKeyed, rangeAnswer}
@@ -16,8 +16,9 @@ use Rattle.model.specs.Map.{Below, Pair, Rising, beforeEnd, firstIn, inR
 use Rattle.model.specs.declared.Bound.{Bound}
 use Rattle.model.specs.declared.Bound.the-variants.{Excluded, Included, Open}
 use Rattle.model.specs.declared.Range.{Range}
-use Rattle.order.specs.Bytes.{Bytes, _≺_}
-use Rattle.order.specs.OrderLaws.{upto-below-trans, below-upto-trans, cmp-after, cmp-before}
+use Rattle.order.specs.Bytes.{Bytes, _≺_, _≼_}
+use Rattle.lists.specs.Exact.{Exact, exact-no, exact-yes}
+use Rattle.order.specs.OrderLaws.{after, before, below-asym, below-upto-trans, cmp-after, cmp-before, cmp-equal, equal, tri, upto-below-trans, upto-of-eq}
 
 -- a pair out of the range
 abbrev pub Out : Range → (start end : Bytes) → Pair → Type 0
@@ -117,3 +118,16 @@ not-keyed Open = refl
 
 pub range-open-end : (r : Range) (s e e′ : Bytes) (out : ℕ) (ns : List Node) → r .end ≡ Open → rangeAnswer r s e out ns ≡ rangeAnswer r s e′ out ns
 range-open-end r s e e′ out ns h = rw (open-end r s e e′ (pairsOf ns) h, h, not-keyed (r .start))
+
+-- what each kind of bound takes in, as document 01 names it
+pub start-included : (s k : Bytes) → Exact (pastStart Included s k) (s ≼ k)
+start-included s k = elim (tri s k) [ before l ↦ rw (cmp-before l) (exact-yes (below-asym l)) | equal e ↦ rw (cmp-equal e) (exact-yes (upto-of-eq e)) | after l ↦ rw (cmp-after l) (exact-no (λ h. h l)) ]
+
+pub start-excluded : (s k : Bytes) → Exact (pastStart Excluded s k) (s ≺ k)
+start-excluded s k = elim (tri s k) [ before l ↦ rw (cmp-before l) (exact-yes l) | equal e ↦ rw (cmp-equal e) (exact-no (λ h. upto-of-eq (sym e) h)) | after l ↦ rw (cmp-after l) (exact-no (λ h. below-asym l h)) ]
+
+pub end-included : (e k : Bytes) → Exact (beforeEnd Included e k) (k ≼ e)
+end-included e k = start-included k e
+
+pub end-excluded : (e k : Bytes) → Exact (beforeEnd Excluded e k) (k ≺ e)
+end-excluded e k = start-excluded k e

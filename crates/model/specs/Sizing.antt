@@ -3,7 +3,7 @@
 -- from an inserted key, and outlives it.
 -- Assumes nothing.
 use Prim.Native.Nat.{_*_, _+_, _≤_, suc, ℕ}
-use mathlib.Core.Bool.{false, true}
+use mathlib.Core.Bool.{Bool, false, true}
 use mathlib.Core.List.{List, [], _∷_}
 use mathlib.Core.Path.{_≡_, ap}
 use native.Mathlib.Nat.{mul-le-mul-right}
@@ -11,17 +11,20 @@ use native.Mathlib.Omega.{arith}
 use borrow.Author.Tests.{eq-eqb, le-ltb, lt-leb, ne-eqb}
 use lib.ListN.{length, length-append}
 use Rattle.lists.specs.All.{All}
-use Rattle.model.specs.Answers.{noLeaf, noRoom}
+use Rattle.model.specs.Answers.{longKey, longValue, short, sizeOf, Changed, accepted, insertAnswer, refuseIf, refused, noLeaf, noRoom}
 use Rattle.model.specs.Charge.{charge, weight}
 use Rattle.model.specs.FilledLaws.{insert-filled, leaves-pairs, remove-filled}
 use Rattle.model.specs.Good.{Bounds, Filled, Tiled, Tiles, Within}
 use Rattle.model.specs.Leaves.{Node, owned, pairsOf}
-use Rattle.model.specs.Map.{Pair, put}
+use Rattle.model.specs.Map.{lookup, Pair, put}
 use Rattle.model.specs.OwnerLaws.{tiles-first}
 use Rattle.model.specs.PairLaws.{insert-pairs}
+use Rattle.model.specs.Place.{at}
 use Rattle.model.specs.Rules.{clearRule, fresh, insertRule, removeRule}
 use Rattle.model.specs.SizeLaws.{cuts, cutting, insert-count, uncut}
 use Rattle.model.specs.TileLaws.{fresh-tiles, insert-tiles, remove-tiles}
+use Rattle.model.specs.declared.Refusal.{Refusal}
+use Rattle.model.specs.declared.Refusal.the-variants.{LongKey, LongValue, NoLeaf, NoRoom, ShortOutput}
 use Rattle.order.specs.Bytes.{Bytes}
 
 abbrev pub bounds : (fanout kmost vmost : ℕ) → Bounds
@@ -103,3 +106,20 @@ sizing F kmost vmost P pool arena three leaves room ns r k v hk hv few =
           (omega (arith, leaves-pairs ms filled)),
       le-ltb arena (charge ms) (omega (arith, filled-charge B P ms tiles filled few-now)),
     )
+
+-- so the insert's answer is neither 7 nor 8
+
+refused-earlier : (a b c : Bool) (n : ℕ) (x : Changed) (r : Refusal) → refuseIf a LongKey (refuseIf b LongValue (refuseIf c (ShortOutput n) (accepted x))) ≡ refused r
+    → (r ≡ NoLeaf → ⊥) × (r ≡ NoRoom → ⊥)
+refused-earlier true b c n x r e = ((λ f. let z : _≡_ {A = ℕ} 0 1 = cc in omega arith), λ f. let z : _≡_ {A = ℕ} 0 1 = cc in omega arith)
+refused-earlier false true c n x r e = ((λ f. let z : _≡_ {A = ℕ} 0 1 = cc in omega arith), λ f. let z : _≡_ {A = ℕ} 0 1 = cc in omega arith)
+refused-earlier false false true n x r e = ((λ f. let z : _≡_ {A = ℕ} 0 1 = cc in omega arith), λ f. let z : _≡_ {A = ℕ} 0 1 = cc in omega arith)
+refused-earlier false false false n x r e = let z : _≡_ {A = ℕ} 0 1 = cc in absurd (omega arith)
+
+pub sizing-answer : (F kmost vmost P pool arena : ℕ) → 3 ≤ F → P + 1 ≤ pool → P * (2 * kmost + vmost) ≤ arena
+    → (ns : List Node) → Reached F kmost vmost ns → (k v : Bytes) → length k ≤ kmost → length v ≤ vmost → length (put k v (pairsOf ns)) ≤ P
+    → (out : ℕ) (r : Refusal) → insertAnswer F pool arena k v out ns ≡ refused r → (r ≡ NoLeaf → ⊥) × (r ≡ NoRoom → ⊥)
+sizing-answer F kmost vmost P pool arena three leaves room ns reached k v hk hv few out r e =
+    let s = sizing F kmost vmost P pool arena three leaves room ns reached k v hk hv few in
+    let old = lookup k (pairsOf ns) in
+    refused-earlier (longKey k) (longValue v) (short out old) (sizeOf old) (record { old = old; nodes = insertRule F k v ns }) r (rw (s .0, s .1) at e)

@@ -10,7 +10,6 @@ use native.Mathlib.Omega.{arith}
 use borrow.Author.Tests.{le-ltb, lt-ltb}
 use lib.Dec.{ltb}
 use lib.ListN.{drop, take}
-use lib.Seq.{drop-nil, take-nil}
 use Rattle.lists.specs.All.{All}
 use Rattle.model.specs.CutLaws.{Cut, cut-below, cut-from}
 use Rattle.model.specs.LeafViews.{on, side, stay}

@@ -15,7 +15,6 @@ use Rattle.model.specs.Map.{Below, From, Pair, Rising, put}
 use Rattle.model.specs.MapLaws.{rising-put}
 use Rattle.model.specs.Rules.{cutKey, halves, insertHere, insertRule, lowestFree}
 use Rattle.order.specs.Bytes.{Bytes}
-use Rattle.order.specs.OrderLaws.{after}
 
 -- m is cut into l and r at the string s
 pub record Divided (m l r : List Pair) (s : Bytes) : Type 0 where
@@ -36,24 +35,24 @@ divided at m c r = record {
   shortest = λ x a b. cut-shortest x c r a b;
 }
 
--- one leaf of the list, with the new pair put, stands as a left and a right leaf; the others are as they were
-pub record SplitOf (k v : Bytes) (ns after : List Node) : Type 0 where
+-- the owner, with the new pair put, stands as a left leaf and a right one with the new number; the other leaves are as they were
+pub record SplitOf (k v : Bytes) (free : ℕ) (ns after : List Node) : Type 0 where
   pub ahead : List Node
   pub leaf : Node
   pub behind : List Node
-  pub free : ℕ
   pub separator : Bytes
   pub l : List Pair
   pub r : List Pair
   pub was : ns ≡ ahead ++ (leaf ∷ behind)
+  pub owns : owned k ns ≡ leaf .pairs
   pub now : after ≡ ahead ++ (withPairs leaf l ∷ node free separator r ∷ behind)
   pub cut : Divided (put k v (leaf .pairs)) l r separator
 
 module _ (B : Bounds) (three : 3 ≤ B .fanout) (free : ℕ) (k v : Bytes) where
-  split-here : (n : Node) (ns : List Node) → Rising (n .pairs) → length (put k v (n .pairs)) ≡ B .fanout
-      → SplitOf k v (n ∷ ns) (insertHere (B .fanout) free k v n ns)
+  split-here : (n : Node) (ns : List Node) → owned k (n ∷ ns) ≡ n .pairs → Rising (n .pairs) → length (put k v (n .pairs)) ≡ B .fanout
+      → SplitOf k v free (n ∷ ns) (insertHere (B .fanout) free k v n ns)
   unfolding insertHere halves
-  split-here n ns g h =
+  split-here n ns o g h =
       let m = put k v (n .pairs) in
       let at = offsetOf (withPairs n m) (lowOf ns) in
       elim (settled (B .fanout) free (withPairs n m) (lowOf ns)) [
@@ -61,18 +60,18 @@ module _ (B : Bounds) (three : 3 ≤ B .fanout) (free : ℕ) (k v : Bytes) where
           ahead = [];
           leaf = n;
           behind = ns;
-          free = free;
           separator = cutKey at m;
           l = take at m;
           r = drop at m;
           was = refl;
+          owns = o;
           now = rw q;
           cut = divided at m (offset-cut (n .low) (lowOf ns) m (omega arith)) (rising-put k v (n .pairs) g);
         }
         | slack e q w ↦ absurd (e h)
       ]
 
-  split-owner : (ns : List Node) → Tiled B ns → length (put k v (owned k ns)) ≡ B .fanout → SplitOf k v ns (atOwner (insertHere (B .fanout) free k v) k ns)
+  split-owner : (ns : List Node) → Tiled B ns → length (put k v (owned k ns)) ≡ B .fanout → SplitOf k v free ns (atOwner (insertHere (B .fanout) free k v) k ns)
   unfolding owned atOwner put
   split-owner [] t h = absurd (omega arith)
   split-owner (n ∷ ns) t h =
@@ -83,20 +82,20 @@ module _ (B : Bounds) (three : 3 ≤ B .fanout) (free : ℕ) (k v : Bytes) where
               ahead = n ∷ i .ahead;
               leaf = i .leaf;
               behind = i .behind;
-              free = i .free;
               separator = i .separator;
               l = i .l;
               r = i .r;
               was = rw (← i .was);
+              owns = rw e (i .owns);
               now = rw e (rw (← i .now));
               cut = i .cut;
             })
-        | fails e ↦ rw e (split-here n ns (t .0 .0 .rises) (rw e at h))
+        | fails e ↦ rw e (split-here n ns (rw e) (t .0 .0 .rises) (rw e at h))
       ]
 
 -- the theorem
 pub insert-split : (B : Bounds) → 3 ≤ B .fanout → (k v : Bytes) (ns : List Node) → Tiles B ns → length (put k v (owned k ns)) ≡ B .fanout
-    → SplitOf k v ns (insertRule (B .fanout) k v ns)
+    → SplitOf k v (lowestFree ns) ns (insertRule (B .fanout) k v ns)
 unfolding insertRule
 insert-split B three k v ns t h = split-owner B three (lowestFree ns) k v ns (t .tiled) h
 

@@ -10,7 +10,8 @@ use lib.ListN.{length, take}
 use lib.Seq.{take-all}
 use Rattle.lists.specs.All.{All, all-mono}
 use Rattle.model.specs.LeafViews.{fails, holds, truth}
-use Rattle.model.specs.Map.{Above, Pair, Rising, firstIn, inRange, lookup, pastStart}
+use Rattle.model.specs.Answers.{inverted}
+use Rattle.model.specs.Map.{Above, Pair, Rising, beforeEnd, firstIn, inRange, lookup, pastStart}
 use Rattle.model.specs.MapLaws.{lookup-above}
 use Rattle.model.specs.declared.Bound.{Bound}
 use Rattle.model.specs.declared.Bound.the-variants.{Excluded, Included, Open}
@@ -150,3 +151,12 @@ walk-all r s e m a = walk-take (length m) r s e m a ∙ take-all (length m) (wit
 pub walk-more : (n : ℕ) (r : Range) (s e : Bytes) (m : List Pair) → Rising m → length m ≤ n → walk n r s e m ≡ walk (length m) r s e m
 walk-more n r s e m a h =
     walk-take n r s e m a ∙ take-all n (within r s e m) (omega (arith, length-within r s e m)) ∙ sym (walk-all r s e m a)
+
+-- so a walk's later calls are never refused as inverted
+pub onward-not-inverted : (r : Range) (s e k : Bytes) → inRange r s e k ≡ true → inverted (onward r) k e ≡ false
+onward-not-inverted r s e k h = go (r .end) (and-eq-true-iff (pastStart (r .start) s k) (beforeEnd (r .end) e k) .0 h .1)
+  where
+    go : (b : Bound) → beforeEnd b e k ≡ true → inverted (record { start = Excluded; end = b }) k e ≡ false
+    go Open t = refl
+    go Included t = elim (tri k e) [ before l ↦ rw (cmp-before l) | equal i ↦ rw (cmp-equal i) | after l ↦ absurd (false≢true (rw (cmp-after l) at t)) ]
+    go Excluded t = elim (tri k e) [ before l ↦ rw (cmp-before l) | equal i ↦ rw (cmp-equal i) | after l ↦ absurd (false≢true (rw (cmp-after l) at t)) ]

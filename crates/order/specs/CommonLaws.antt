@@ -2,15 +2,15 @@
 -- the bytes that the bounds share (L1, L2).
 -- Assumes nothing.
 use Prim.Native.Nat.{ℕ, zero, suc, _+_, _≤_, _<_}
-use mathlib.Core.List.{List, [], _∷_, _++_}
+use mathlib.Core.List.{[], _∷_, _++_}
 use mathlib.Core.Path.{_≡_, refl, sym, ap, _∙_}
-use mathlib.Core.Logic.{_⊎_, inl, inr}
+use mathlib.Core.Logic.{inl, inr}
 use native.Mathlib.Omega.{arith}
 use borrow.Author.Tests.{eq-eqb, ne-eqb}
 use lib.ListN.{length, take, drop, getD}
 use lib.Seq.{take-nil}
 use Rattle.order.specs.Bytes.{Bytes, cmp, _≺_, _≼_, common}
-use Rattle.order.specs.OrderLaws.{Heads, lower, level, upper, heads, cmp-drop, below-nil, below-lower, below-level, below-cons, not-below-nil}
+use Rattle.order.specs.OrderLaws.{lower, level, upper, heads, cmp-drop, below-nil, below-lower, below-level, below-cons}
 
 pub common-level : (x y : ℕ) (xs ys : Bytes) → x ≡ y → common (x ∷ xs) (y ∷ ys) ≡ suc (common xs ys)
 unfolding common

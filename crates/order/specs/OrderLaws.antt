@@ -1,8 +1,8 @@
 -- The order of byte strings is total, and its laws: `≺` is irreflexive, asymmetric and transitive, `≼` antisymmetric and transitive, two
 -- strings are Equal exactly where they are the same bytes, and an equal front does not count. Other crates cite these and open nothing.
 -- Assumes nothing.
-use Prim.Native.Nat.{ℕ, zero, suc, _≤_, _<_}
-use mathlib.Core.List.{List, [], _∷_, _++_}
+use Prim.Native.Nat.{ℕ, _<_}
+use mathlib.Core.List.{[], _∷_, _++_}
 use mathlib.Core.Path.{_≡_, refl, sym, ap, _∙_}
 use mathlib.Core.Logic.{_⊎_, inl, inr}
 use native.Mathlib.Omega.{arith}

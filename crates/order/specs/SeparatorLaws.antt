@@ -1,13 +1,13 @@
 -- L5: the separator of l and r, where l is below r, is above l and not above r; no shorter byte string at all is; of those as short it is
 -- the largest. Where l and r share a front, it is that front and the separator of what comes after: a leaf holds suffixes only.
 -- Assumes nothing.
-use Prim.Native.Nat.{ℕ, zero, suc, _+_, _≤_, _<_}
-use mathlib.Core.List.{List, [], _∷_, _++_}
-use mathlib.Core.Path.{_≡_, refl, sym, ap, _∙_}
-use mathlib.Core.Logic.{_⊎_, inl, inr}
+use Prim.Native.Nat.{ℕ, zero, suc, _≤_, _<_}
+use mathlib.Core.List.{[], _∷_, _++_}
+use mathlib.Core.Path.{_≡_, refl, sym, _∙_}
+use mathlib.Core.Logic.{inl, inr}
 use native.Mathlib.Omega.{arith}
 use lib.ListN.{length, take, length-take}
-use Rattle.order.specs.Bytes.{Bytes, cmp, _≺_, _≼_, common, separator}
+use Rattle.order.specs.Bytes.{Bytes, _≺_, _≼_, common, separator}
 use Rattle.order.specs.OrderLaws.{not-below-nil, below-nil, below-lower, below-level, below-cons, take-upto}
 use Rattle.order.specs.CommonLaws.{even, apart, leveled, common-level, common-apart}
 

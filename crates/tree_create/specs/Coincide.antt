@@ -4,7 +4,9 @@ use Prim.Native.Nat.{ℕ}
 use mathlib.Core.List.{List}
 use mathlib.Core.Path.{_∙_, _≡_, sym}
 use lib.ListN.{length}
-use Rattle.layout.specs.Examples.{header}
+use Rattle.layout.specs.Examples.{fresh-good, header}
+use Rattle.layout.specs.Lays.{W}
+use Rattle.model.specs.Rules.{fresh}
 use Rattle.layout.specs.declared.Header.{Header}
 use Rattle.model.specs.Answers.{Answer, accepted, clearAnswer, createAnswer, refused}
 use Rattle.model.specs.Leaves.{Node}
@@ -60,3 +62,7 @@ len-coincides h dir slots arena a b =
       | yes w ↦ a .held w ∙ sym (b .held w)
       | no n ↦ a .damaged n ∙ sym (b .damaged n)
     ]
+
+-- creation and `clear` leave an index
+pub freshened-w : {fanout : ℕ} {dir slots arena d s : List ℕ} {r : Answered} → Freshened fanout dir slots arena d s fresh r → W (r .header) d s arena
+freshened-w {arena = arena} {d = d} {s = s} {r = r} x = record { nodes = fresh; holds = x .holds; good = fresh-good (r .header .fanout) (length d) (length s) (length arena) (x .holds .sizes) }

@@ -3,16 +3,17 @@ use Prim.Native.Nat.{ℕ}
 use mathlib.Core.List.{List, [], _∷_}
 use mathlib.Core.Path.{_≡_}
 use lib.ListN.{length}
-use Rattle.lists.specs.Part.{put}
 use Rattle.layout.specs.Entry.{Entry}
 use Rattle.layout.specs.Examples.{header}
 use Rattle.layout.specs.Lays.{Holds}
 use Rattle.layout.specs.declared.Header.{Header}
-use Rattle.model.specs.Answers.{Answer, accepted, clearAnswer, createAnswer, lenAnswer, refused}
+use Rattle.lists.specs.Part.{put}
+use Rattle.model.specs.Answers.{numberOf, Answer, accepted, clearAnswer, createAnswer, lenAnswer, refused}
 use Rattle.model.specs.Leaves.{Node}
 use Rattle.model.specs.declared.Refusal.{Refusal}
 use Rattle.model.specs.declared.Refusal.the-variants.{Damaged}
 use Rattle.tree_create.specs.declared.Answered.{Answered}
+use Rattle.tree_create.specs.declared.Change.{Change}
 use Rattle.tree_create.specs.declared.Change.the-variants.{Done, Refused}
 use Rattle.tree_create.specs.declared.Length.{Length}
 use Rattle.tree_create.specs.declared.Length.the-variants.{Pairs, Unmeasured}
@@ -24,9 +25,15 @@ pub record MadeFresh (fanout : ℕ) (dir slots now-dir now-slots : List ℕ) (h 
   pub dir-is : now-dir ≡ put dir 0 (directoryWord 0 0 ∷ [])
   pub slots-are : now-slots ≡ put slots (lowKeySlot fanout 0) (lowKeyWord 0 0 ∷ [])
 
+-- document 01's number of an answer: 0 where it is accepted
+abbrev pub numberIn : Change → ℕ
+numberIn Done = 0
+numberIn (Refused x) = numberOf x
+
 -- refused: the header as said, every lent word as it was
 pub record Untouched (x : Refusal) (h : Header) (dir slots now-dir now-slots : List ℕ) (r : Answered) : Type 0 where
   pub answer-is : r .answer ≡ Refused x
+  pub number-is : numberIn (r .answer) ≡ numberOf x
   pub header-is : r .header ≡ h
   pub dir-is : now-dir ≡ dir
   pub slots-are : now-slots ≡ slots

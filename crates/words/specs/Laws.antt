@@ -1,7 +1,7 @@
 -- Packing and unpacking undo one another, for every u64 and u32 and for all numbers that fit their fields.
 -- Assumes nothing.
 use mathlib.Core.Path.{_≡_, _∙_}
-use Prim.Native.Nat.{ℕ, _+_, _*_, _/_, _%_, _^_, _-_, _<_}
+use Prim.Native.Nat.{ℕ, _^_, _<_}
 use native.Mathlib.Omega.{arith}
 use Rattle.words.specs.declared.Slot.{Slot}
 use Rattle.words.specs.declared.LowKey.{LowKey}

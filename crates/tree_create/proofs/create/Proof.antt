@@ -3,7 +3,6 @@
 use borrow.Author.Tests.{not-true, not-false}
 use Rattle.lists.specs.Exact.{refuted}
 use Rattle.tree_create.proofs.Steps.{sizes-room, create-refused, create-done}
-use native.Mathlib.Omega.{arith}
 use borrow.Author.Needs.{needs}
 use Rattle.tree_create.proofs.create.Statement.{statement}
 use Rattle.tree_create.proofs.create.Tie as tie

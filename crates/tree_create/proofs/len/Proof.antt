@@ -3,7 +3,6 @@
 use borrow.Author.Tests.{not-true, not-false}
 use Rattle.lists.specs.Exact.{refuted}
 use Rattle.tree_create.proofs.Steps.{len-refused, len-counted}
-use native.Mathlib.Omega.{arith}
 use borrow.Author.Needs.{needs}
 use Rattle.tree_create.proofs.len.Statement.{statement}
 use Rattle.tree_create.proofs.len.Tie as tie

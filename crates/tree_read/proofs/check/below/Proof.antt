@@ -1,7 +1,6 @@
 -- `below` meets its contract.
 -- Assumes nothing.
 use Rattle.tree_read.proofs.Steps.{below-less, below-equal, below-greater}
-use native.Mathlib.Omega.{arith}
 use borrow.Author.Needs.{needs}
 use Rattle.tree_read.proofs.check.below.Statement.{statement}
 use Rattle.tree_read.proofs.check.below.Tie as tie

@@ -3,7 +3,6 @@
 use borrow.Author.Tests.{not-true, not-false}
 use Rattle.lists.specs.Exact.{refuted, exact-leb}
 use Rattle.tree_read.proofs.Steps.{low-word-value, low-word-long, low-word-inside}
-use native.Mathlib.Omega.{arith}
 use borrow.Author.Needs.{needs}
 use Rattle.tree_read.proofs.check.low_word_ok.Statement.{statement}
 use Rattle.tree_read.proofs.check.low_word_ok.Tie as tie

@@ -1,7 +1,6 @@
 -- `not_empty` meets its contract.
 -- Assumes nothing.
 use Rattle.tree_read.proofs.Leaves.{empty-last, empty-inner}
-use native.Mathlib.Omega.{arith}
 use borrow.Author.Needs.{needs}
 use Rattle.tree_read.proofs.check.not_empty.Statement.{statement}
 use Rattle.tree_read.proofs.check.not_empty.Tie as tie

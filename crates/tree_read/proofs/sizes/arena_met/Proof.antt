@@ -2,8 +2,6 @@
 -- Assumes nothing.
 use Rattle.lists.specs.Exact.{exact-leb}
 use Rattle.model.specs.Limits.{arenaLimit}
-use borrow.Author.Needs.{needs}
-use native.Mathlib.Omega.{arith}
 use Rattle.tree_read.proofs.sizes.arena_met.Statement.{statement}
 use Rattle.tree_read.proofs.sizes.arena_met.Tie as tie
 

@@ -2,7 +2,6 @@
 -- Assumes nothing.
 use Rattle.lists.specs.Exact.{exact-no, exact-iff, exact-leb}
 use Rattle.model.specs.Limits.{poolLeast, poolLimit}
-use borrow.Author.Needs.{needs}
 use native.Mathlib.Omega.{arith}
 use Rattle.tree_read.proofs.sizes.pool_met.Statement.{statement}
 use Rattle.tree_read.proofs.sizes.pool_met.Tie as tie
