@@ -1,0 +1,5 @@
+pub mod Used
+pub mod Takes
+pub mod TakeLaws
+pub mod Cuts
+pub mod CutLaws
