@@ -1,6 +1,6 @@
 -- The used words of the directory, from one place in it.
 use Prim.Native.Nat.{ℕ}
-use mathlib.Core.List.{List, _∷_}
+use mathlib.Core.List.{List}
 use lib.ListN.{drop, getD, take}
 use Rattle.layout.specs.Buffers.{Buffers}
 

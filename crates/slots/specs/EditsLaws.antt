@@ -5,9 +5,11 @@ use mathlib.Core.List.{List, [], _∷_, _++_, map}
 use mathlib.Core.Path.{_≡_, _∙_, ap, refl, sym}
 use native.Mathlib.Omega.{arith}
 use lib.ListN.{getD, length, length-map, take, drop}
-use Rattle.layout.specs.AroundLaws.{LaysAround, inside-here}
+use Rattle.layout.specs.AroundLaws.{wordsBehind, LaysAround, inside-here}
 use Rattle.layout.specs.Buffers.{lowWord, valuePlace, Buffers, lowAt, slotWords, suffixAt}
 use Rattle.layout.specs.EditLaws.{words-long}
+use Rattle.layout.specs.Order.{wordExtent}
+use Rattle.layout.specs.OrderLaws.{order-top}
 use Rattle.layout.specs.RegionLaws.{owns-kept}
 use Rattle.layout.specs.ShiftLaws.{Leads, shift-leaf, shift-ready, shifted}
 use Rattle.layout.specs.SlotLaws.{put-in-written, replace-value, take-out}
@@ -177,6 +179,32 @@ replaced {fanout} {slots} {arena} {d} {i} {value} {now-slots} {now-arena} t s m 
     one first c h k m = omega arith
 
 -- a pair put in
+
+pub puts-of : (fanout : ℕ) (dir slots arena : List ℕ) (j i at : ℕ) (suffix value : Bytes) (a : Around (over fanout slots arena) (getD dir j 0)) → j < length dir
+    → i ≤ length (a .leaf .pairs) → length (a .leaf .pairs) + 1 < fanout → fanout ≤ 2 ^ 20 → length arena < 2 ^ 28 → length suffix < 2 ^ 12 → length value < 2 ^ 24
+    → Gap (over fanout slots arena) (a .ahead) (getD dir j 0) (a .behind) i at (length suffix + length value) → Puts fanout dir slots arena j i at suffix value
+puts-of fanout dir slots arena j i at suffix value a h k few top small hs hv g =
+    let d = getD dir j 0 in
+    let room : wordCount d + 1 < fanout = rw (a .lays .here .count-is) few in
+    let in-arena : at + (length suffix + length value) ≤ length arena =
+    order-top _ (map wordExtent (wordsBehind (over fanout slots arena) d (a .behind) i)) _ (g .before) in
+    record {
+      place = h;
+      region = region-of (over fanout slots arena) d a;
+      slot = rw (a .lays .here .count-is) k;
+      room = room;
+      count-fits = below (wordCount d) room;
+      inside = in-arena;
+      offset-fits = under (length suffix + length value) in-arena;
+      suffix-fits = hs;
+      value-fits = hv;
+    }
+  where
+    below : (c : ℕ) → c + 1 < fanout → c + 1 < 2 ^ 20
+    below c h = omega arith
+
+    under : (n : ℕ) → at + n ≤ length arena → at < 2 ^ 28
+    under n h = omega arith
 
 put-in-lays : {fanout : ℕ} {slots arena : List ℕ} {d : ℕ} (i at w : ℕ) (suffix value : Bytes) (now-slots now-arena : List ℕ) (a : Around (over fanout slots arena) d)
     → i ≤ wordCount d → wordCount d + 1 < fanout → wordCount d + 1 < 2 ^ 20

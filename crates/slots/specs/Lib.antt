@@ -1,3 +1,4 @@
 pub mod Around
 pub mod Edits
 pub mod EditsLaws
+pub mod Whole

@@ -1,4 +1,4 @@
-// 01's slot map: the slot words of one leaf edited. A pair taken out, put in, its value replaced; keys shortened after a split.
+// The slot map of document 01: the slot words of one leaf edited. A pair taken out, put in, its value replaced; keys shortened after a split.
 ghost use mathlib.Core.Path.{_≡_};
 ghost use mathlib.Core.List.{_∷_, _++_};
 ghost use Prim.Native.Nat.{_+_, _^_, _≤_, _<_};

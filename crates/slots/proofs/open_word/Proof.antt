@@ -1,7 +1,6 @@
 -- `open_word` meets its contract.
 -- Assumes nothing.
 use Rattle.slots.proofs.Steps.{word-opened}
-use native.Mathlib.Omega.{arith}
 use borrow.Author.Needs.{needs}
 use Rattle.slots.proofs.open_word.Statement.{statement}
 use Rattle.slots.proofs.open_word.Tie as tie

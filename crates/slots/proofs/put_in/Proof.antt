@@ -1,7 +1,6 @@
 -- `put_in` meets its contract.
 -- Assumes nothing.
 use Rattle.slots.proofs.Steps.{put-in-met}
-use native.Mathlib.Omega.{arith}
 use borrow.Author.Needs.{needs}
 use Rattle.slots.proofs.put_in.Statement.{statement}
 use Rattle.slots.proofs.put_in.Tie as tie

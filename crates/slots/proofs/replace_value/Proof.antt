@@ -1,7 +1,6 @@
 -- `replace_value` meets its contract.
 -- Assumes nothing.
 use Rattle.slots.proofs.Steps.{place-inside, replace-value-met}
-use native.Mathlib.Omega.{arith}
 use borrow.Author.Needs.{needs}
 use Rattle.slots.proofs.replace_value.Statement.{statement}
 use Rattle.slots.proofs.replace_value.Tie as tie

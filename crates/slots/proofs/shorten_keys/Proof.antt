@@ -2,7 +2,6 @@
 -- Assumes nothing.
 use mathlib.Core.Path.{refl}
 use Rattle.slots.proofs.Steps.{words-fit, shorten-keys-met}
-use native.Mathlib.Omega.{arith}
 use borrow.Author.Needs.{needs}
 use Rattle.slots.proofs.shorten_keys.Statement.{statement}
 use Rattle.slots.proofs.shorten_keys.Tie as tie

@@ -1,7 +1,6 @@
 -- `take_out` meets its contract.
 -- Assumes nothing.
 use Rattle.slots.proofs.Steps.{take-out-met}
-use native.Mathlib.Omega.{arith}
 use borrow.Author.Needs.{needs}
 use Rattle.slots.proofs.take_out.Statement.{statement}
 use Rattle.slots.proofs.take_out.Tie as tie

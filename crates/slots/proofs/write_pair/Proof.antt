@@ -1,7 +1,6 @@
 -- `write_pair` meets its contract.
 -- Assumes nothing.
 use Rattle.slots.proofs.Steps.{pair-put}
-use native.Mathlib.Omega.{arith}
 use borrow.Author.Needs.{needs}
 use Rattle.slots.proofs.write_pair.Statement.{statement}
 use Rattle.slots.proofs.write_pair.Tie as tie
