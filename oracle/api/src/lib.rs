@@ -1,0 +1,16 @@
+//! The functions that crate `exports` gives to Rust and C, run beside the
+//! reference: every answer and every lent byte is compared.
+
+#![deny(unsafe_code)]
+
+pub mod cases;
+pub mod compare;
+pub mod creations;
+pub mod damages;
+pub mod exports;
+#[cfg(not(target_arch = "x86_64"))]
+mod far;
+pub mod fresh;
+pub mod sides;
+pub mod tally;
+pub mod times;
