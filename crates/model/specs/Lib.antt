@@ -33,3 +33,4 @@ pub mod Sizing
 pub mod SizingRuns
 pub mod LimitLaws
 pub mod GoodLaws
+pub mod StoredRules
