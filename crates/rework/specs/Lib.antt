@@ -1,0 +1,3 @@
+pub mod Splits
+pub mod SplitLaws
+pub mod SplitMet

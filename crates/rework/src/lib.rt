@@ -1,0 +1,39 @@
+// Edits that are several smaller ones in turn: a split of one leaf in the buffers, with the new low key written and the prefixes of both halves grown.
+ghost use Rattle.rework.specs.Splits.{CanSplit, Split};
+use directory::cut_leaf;
+use moves::copy_bytes;
+use slots::shorten_keys;
+use words::LeafNo;
+use words::LowKey;
+use words::Offset;
+
+// The j-th leaf split at its i-th slot: the new low key goes into the gap between the halves, the pairs from the i-th on to the leaf `free`, and
+// the prefixes grow, the left half's by g bytes, the right half's by h.
+pub fn split_stored(
+    dir: &mut [u32],
+    slots: &mut [u64],
+    arena: &mut [u8],
+    fanout: usize,
+    leaves: usize,
+    j: usize,
+    i: usize,
+    free: LeafNo,
+    at: Offset,
+    low: &[u8],
+    g: usize,
+    h: usize,
+)
+    requires { ⌜ CanSplit fanout leaves (now dir) (now slots) (now arena) j i (free .0) (at .0) (now low) g h ⌝ }
+    ensures { λ _. ⌜ Split fanout leaves (now (dir .entry)) (now (slots .entry)) (now (arena .entry)) j i (free .0) (at .0) (now (low .entry)) g h (now (dir .exit)) (now (slots .exit)) (now (arena .exit)) ⌝ }
+{
+    copy_bytes(arena, at.0, low);
+    let key = LowKey {
+        offset: at,
+        length: low.len(),
+    };
+    cut_leaf(dir, slots, fanout, leaves, j, i, free, key);
+    let left = dir[j];
+    let right = dir[j + 1];
+    shorten_keys(slots, fanout, left, g);
+    shorten_keys(slots, fanout, right, h);
+}
