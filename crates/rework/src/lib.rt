@@ -1,5 +1,7 @@
 // Edits that are several smaller ones in turn: a split of one leaf in the buffers, with the new low key written and the prefixes of both halves grown.
+ghost use Rattle.rework.specs.Slides.{CanSlideSplit, SlideSplit};
 ghost use Rattle.rework.specs.Splits.{CanSplit, Split};
+use arena::slide_pair;
 use directory::cut_leaf;
 use moves::copy_bytes;
 use slots::shorten_keys;
@@ -36,4 +38,27 @@ pub fn split_stored(
     let right = dir[j + 1];
     shorten_keys(slots, fanout, left, g);
     shorten_keys(slots, fanout, right, h);
+}
+
+// The same with the gap opened first: the i-th pair, the right half's first, slides up to `to`.
+pub fn slide_split(
+    dir: &mut [u32],
+    slots: &mut [u64],
+    arena: &mut [u8],
+    fanout: usize,
+    leaves: usize,
+    j: usize,
+    i: usize,
+    to: Offset,
+    free: LeafNo,
+    at: Offset,
+    low: &[u8],
+    g: usize,
+    h: usize,
+)
+    requires { ⌜ CanSlideSplit fanout leaves (now dir) (now slots) (now arena) j i (to .0) (free .0) (at .0) (now low) g h ⌝ }
+    ensures { λ _. ⌜ SlideSplit fanout leaves (now (dir .entry)) (now (slots .entry)) (now (arena .entry)) j i (to .0) (free .0) (at .0) (now (low .entry)) g h (now (dir .exit)) (now (slots .exit)) (now (arena .exit)) ⌝ }
+{
+    slide_pair(slots, arena, fanout, dir[j], i, to);
+    split_stored(dir, slots, arena, fanout, leaves, j, i, free, at, low, g, h)
 }
