@@ -2,7 +2,7 @@
 -- Assumes nothing.
 use Prim.Native.Nat.{_<_, suc, ℕ}
 use mathlib.Core.List.{List}
-use mathlib.Core.Path.{_≡_}
+use mathlib.Core.Path.{_∙_, _≡_, ap}
 use native.Mathlib.Omega.{arith}
 use lib.ListN.{getD, length}
 use Rattle.arena.specs.Slides.{CanSlidePair, SlidPair}
@@ -10,7 +10,7 @@ use Rattle.directory.specs.Used.{usedFrom, usedTo}
 use Rattle.order.specs.Bytes.{Bytes}
 use Rattle.rework.specs.SlideLaws.{between-of, splits-slid, to-inside}
 use Rattle.rework.specs.Slides.{CanSlideSplit, SlideSplit}
-use Rattle.rework.specs.Splits.{CanSplit, Split}
+use Rattle.rework.specs.Splits.{CanSplit, Split, splitSlots}
 
 module _ {fanout leaves : ℕ} {dir slots arena : List ℕ} {j i to free at : ℕ} {low : Bytes} {g h : ℕ} (t : CanSlideSplit fanout leaves dir slots arena j i to free at low g h) where
   pub can-slide : CanSlidePair fanout slots arena (getD dir j 0) i to
@@ -38,4 +38,4 @@ module _ {fanout leaves : ℕ} {dir slots arena : List ℕ} {j i to free at : �
 
     pub slide-split-done : {exit-dir exit-slots exit-arena : List ℕ} → Split fanout leaves dir slid moved j i free at low g h exit-dir exit-slots exit-arena
         → SlideSplit fanout leaves dir slots arena j i to free at low g h exit-dir exit-slots exit-arena
-    slide-split-done v = record { dir-is = v .dir-is; arena-is = rw (u .arena-is) at (v .arena-is); split = λ s. v .split (splits-slid s slid moved u same long) }
+    slide-split-done v = record { dir-is = v .dir-is; slots-are = v .slots-are ∙ ap (λ (s : List ℕ). splitSlots fanout dir s j i free at (length low) g h) (u .slots-are); arena-is = rw (u .arena-is) at (v .arena-is); split = λ s. v .split (splits-slid s slid moved u same long) }

@@ -2,7 +2,7 @@
 -- Assumes nothing.
 use Prim.Native.Nat.{_+_, _-_, _<_, _^_, _≤_, ℕ}
 use mathlib.Core.List.{List, _∷_}
-use mathlib.Core.Path.{_≡_}
+use mathlib.Core.Path.{_∙_, _≡_, ap}
 use native.Mathlib.Nat.{add-zero}
 use native.Mathlib.Omega.{arith}
 use lib.ListN.{getD, length, take}
@@ -11,7 +11,7 @@ use Rattle.lists.specs.Part.{getD-put-in, part, put}
 use Rattle.model.specs.Leaves.{Node, withPairs}
 use Rattle.order.specs.Bytes.{Bytes}
 use Rattle.rework.specs.SplitLaws.{cuts-of, left-around, low-inside, right-around, split-list, written-long}
-use Rattle.rework.specs.Splits.{CanSplit, Split, Splits}
+use Rattle.rework.specs.Splits.{CanSplit, Split, Splits, cutSlots, grownSlots, splitSlots}
 use Rattle.slots.specs.Around.{Becomes, over}
 use Rattle.slots.specs.Edits.{Shortened, Shortens}
 use Rattle.slots.specs.EditsLaws.{shortens-of}
@@ -48,6 +48,9 @@ module _ {fanout leaves : ℕ} {dir slots arena : List ℕ} {j i free at : ℕ} 
       → CutList fanout leaves dir j i free now-dir cut written low qs p rs l n r
   cut-of s = c .cut (cuts-of s written is k e f)
 
+  cut-is : cut ≡ cutSlots fanout dir slots j i free at (length low)
+  cut-is = rw (e, f) at (c .slots-are)
+
   written-small : length written < 2 ^ 28
   written-small = rw (written-long (t .splits) written is) (t .splits .arena-fits)
 
@@ -72,10 +75,16 @@ module _ {fanout leaves : ℕ} {dir slots arena : List ℕ} {j i free at : ℕ} 
       right-shortened : Shortened fanout grown (rightWord dir j i free) h exit-slots
       right-shortened = rw right-word at v
 
+      slots-are : exit-slots ≡ splitSlots fanout dir slots j i free at (length low) g h
+      slots-are =
+          let once = left-shortened .slots-are ∙ ap (λ (s : List ℕ). grownSlots fanout s (leftWord dir j i) g) cut-is in
+          right-shortened .slots-are ∙ ap (λ (s : List ℕ). grownSlots fanout s (rightWord dir j i free) h) once
+
       pub split-done : Split fanout leaves dir slots arena j i free at low g h now-dir exit-slots written
       split-done =
           record {
             dir-is = c .dir-is;
+            slots-are = slots-are;
             arena-is = is;
             split = λ s. split-list (cut-of s) g grown long (left-of s) h exit-slots same
                 (right-shortened .leaves written (right-around (cut-of s) g grown long (left-of s)) (s .right-long) (s .right-shares));

@@ -13,8 +13,8 @@ use Rattle.lists.specs.All.{All}
 use Rattle.lists.specs.Part.{part, put}
 use Rattle.model.specs.Leaves.{Node}
 use Rattle.order.specs.Bytes.{Bytes}
-use Rattle.rework.specs.Splits.{SplitList}
-use Rattle.words.specs.Words.{wordCount, wordOffset, wordSuffix, wordValue}
+use Rattle.rework.specs.Splits.{SplitList, splitSlots}
+use Rattle.words.specs.Words.{firstSlot, slotWord, wordCount, wordLeaf, wordOffset, wordSuffix, wordValue}
 
 -- as `Splits`, but only the i-th pair's new place `to` need leave room for `low` before it
 pub record SlideSplits (fanout leaves : ℕ) (dir slots arena : List ℕ) (j i to free at : ℕ) (low : Bytes) (g h : ℕ) (qs : List ℕ) (p : ℕ) (rs : List ℕ) (l : List Node) (n : Node) (r : List Node) : Type 0 where
@@ -46,8 +46,14 @@ pub record CanSlideSplit (fanout leaves : ℕ) (dir slots arena : List ℕ) (j i
   pub r : List Node
   pub splits : SlideSplits fanout leaves dir slots arena j i to free at low g h qs p rs l n r
 
+-- the slot words with the i-th pair of the directory word d's leaf at `to`
+abbrev pub slidSlots : (fanout : ℕ) (slots : List ℕ) (d i to : ℕ) → List ℕ
+slidSlots fanout slots d i to =
+    put slots (firstSlot fanout (wordLeaf d) + i) (slotWord to (wordSuffix (slotWordAt fanout slots d i)) (wordValue (slotWordAt fanout slots d i)) ∷ [])
+
 pub record SlideSplit (fanout leaves : ℕ) (dir slots arena : List ℕ) (j i to free at : ℕ) (low : Bytes) (g h : ℕ) (exit-dir exit-slots exit-arena : List ℕ) : Type 0 where
   pub dir-is : exit-dir ≡ put dir j (leftWord dir j i ∷ rightWord dir j i free ∷ part dir (j + 1) (leaves - (j + 1)))
+  pub slots-are : exit-slots ≡ splitSlots fanout dir (slidSlots fanout slots (wordAt dir j) i to) j i free at (length low) g h
   pub arena-is :
       exit-arena
       ≡ put
