@@ -73,7 +73,7 @@ pub all-of : {A : Type 0} {P : A → Type 0} → ((x : A) → P x) → (l : List
 all-of f [] = tt
 all-of f (x ∷ l) = (f x, all-of f l)
 
--- the words of a directory word are as they were, and the bytes behind them too
+-- the words of a directory word are as they were
 pub record SameWords (b c : Buffers) (d : ℕ) : Type 0 where
   pub low-word : lowWord c d ≡ lowWord b d
   pub words : slotWords c d ≡ slotWords b d

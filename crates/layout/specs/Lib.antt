@@ -21,3 +21,7 @@ pub mod ShiftLaws
 pub mod DirectoryLaws
 pub mod UsedLaws
 pub mod Entry
+pub mod Presumed
+pub mod Places
+pub mod PlacesLaws
+pub mod Pieces

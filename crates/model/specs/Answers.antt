@@ -4,6 +4,7 @@ use Prim.Native.Nat.{ℕ, zero, suc, _*_}
 use mathlib.Core.Bool.{Bool, true, false, not, _&&_}
 use mathlib.Core.List.{List, [], _∷_}
 use mathlib.Core.Option.{Option, none, some}
+use mathlib.Core.Path.{_≡_}
 use lib.Dec.{ltb, leb, eqb}
 use lib.ListN.{length}
 use Rattle.order.specs.Bytes.{Bytes, cmp}
@@ -43,6 +44,26 @@ lengthOf NoRoom = none
 pub data Answer (A : Type 0) : Type 0 where
   refused : Refusal → Answer A
   accepted : A → Answer A
+
+-- document 01's number of an answer, 0 where nothing is refused, and the length that a refusal also returns
+pub record Code : Type 0 where
+  pub number : ℕ
+  pub length : Option ℕ
+
+abbrev pub codeOf : Refusal → Code
+codeOf x = record { number = numberOf x; length = lengthOf x }
+
+abbrev pub noRefusal : Code
+noRefusal = record { number = 0; length = none }
+
+abbrev pub answerCode : {A : Type 0} → Answer A → Code
+answerCode (refused x) = codeOf x
+answerCode (accepted a) = noRefusal
+
+-- a call's answer r is the one told, and has its number
+pub record Gives {R : Type 0} (codeIn : R → Code) (told : R) (code : Code) (r : R) : Type 0 where
+  pub answer-is : r ≡ told
+  pub code-is : codeIn r ≡ code
 
 -- a test, its refusal, and what comes after it
 abbrev pub refuseIf : {A : Type 0} → Bool → Refusal → Answer A → Answer A
@@ -145,15 +166,21 @@ abbrev pub keyOf : Option Pair → Option Bytes
 keyOf none = none
 keyOf (some p) = some (p .key)
 
--- a scan: 6 before 5, since 5 needs the pair
-abbrev pub rangeAnswer : Range → (start end : Bytes) → (out : ℕ) → List Node → Answer (Option Pair)
-rangeAnswer r s e out ns =
-    let found = firstIn r s e (pairsOf ns) in
+-- a scan's pair: 3, then 6
+abbrev pub rangeFound : Range → (start end : Bytes) → List Node → Answer (Option Pair)
+rangeFound r s e ns =
     refuseIf (longBound (r .start) s) LongKey
     (refuseIf (longBound (r .end) e) LongKey
     (refuseIf (inverted r s e) InvertedRange
-    (refuseIf (short out (keyOf found)) (ShortOutput (sizeOf (keyOf found)))
-    (accepted found))))
+    (accepted (firstIn r s e (pairsOf ns)))))
+
+-- and its key written to an output of `out` bytes: 6 before 5, since 5 needs the pair
+abbrev pub keyWritten : (out : ℕ) → Answer (Option Pair) → Answer (Option Pair)
+keyWritten out (refused x) = refused x
+keyWritten out (accepted found) = refuseIf (short out (keyOf found)) (ShortOutput (sizeOf (keyOf found))) (accepted found)
+
+abbrev pub rangeAnswer : Range → (start end : Bytes) → (out : ℕ) → List Node → Answer (Option Pair)
+rangeAnswer r s e out ns = keyWritten out (rangeFound r s e ns)
 
 abbrev pub everything : Range
 everything = record { start = Open; end = Open }

@@ -34,3 +34,4 @@ pub mod SizingRuns
 pub mod LimitLaws
 pub mod GoodLaws
 pub mod StoredRules
+pub mod StartLaws

@@ -5,7 +5,7 @@ use mathlib.Core.List.{List, [], _++_, _∷_}
 use mathlib.Core.Path.{_≡_, ap, refl}
 use native.Mathlib.Omega.{arith}
 use lib.ListN.{drop, getD, length, take}
-use Rattle.model.specs.Good.{Bounds, Tiled, Tiles}
+use Rattle.model.specs.Good.{Bounds, GoodLeaf, Tiled, Tiles}
 use Rattle.model.specs.LeafViews.{on, side, stay}
 use Rattle.model.specs.Leaves.{node, Node, Spans, Under, atOwner, lowOf, owned, owner}
 use Rattle.order.specs.Bytes.{Bytes, _≼_}
@@ -83,6 +83,12 @@ module _ (k : Bytes) (d : Node) where
         | on e v ↦ rw e (ap suc (owner-unique B m ns j (t .1) (omega arith) l u))
         | stay e b ↦ absurd (upto-trans (lows-from B m ns j (t .1) (omega arith)) l b)
       ]
+
+-- the leaf at a place
+pub tiled-at : {B : Bounds} (ns : List Node) (j : ℕ) → Tiled B ns → j < length ns → GoodLeaf B (getD ns j (node 0 [] [])) (lowOf (drop (suc j) ns))
+tiled-at [] j t h = absurd (omega arith)
+tiled-at (n ∷ ns) zero t h = t .0 .0
+tiled-at (n ∷ ns) (suc j) t h = tiled-at ns j (t .1) (omega arith)
 
 -- a tiling's first leaf, from which every key is at or above the low key
 pub tiles-first : {B : Bounds} (P : List Node → Type 0) → ((n : Node) (ns : List Node) → ((k : Bytes) → n .low ≼ k) → Tiled B (n ∷ ns) → P (n ∷ ns))

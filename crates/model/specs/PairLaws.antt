@@ -9,7 +9,7 @@ use mathlib.Core.Path.{_∙_, _≡_, refl, sym}
 use native.Mathlib.Omega.{arith}
 use lib.ListN.{drop, take, take-append-drop}
 use Rattle.lists.specs.All.{All, all-append, all-mono}
-use Rattle.model.specs.Good.{Bounds, GoodLeaf, Tiled, Tiles}
+use Rattle.model.specs.Good.{Bounds, GoodLeaf, Tiled, Tiles, Within}
 use Rattle.model.specs.LeafViews.{fails, holds, truth, full, merges, offsetOf, on, removal, settled, side, slack, stay, stays}
 use Rattle.model.specs.Leaves.{reaches, Node, Under, atOwner, lowOf, owned, pairsOf, withPairs}
 use Rattle.model.specs.Map.{put, Above, Below, From, Pair, Rising, lookup, remove}
@@ -41,6 +41,10 @@ module _ (B : Bounds) where
 
   pub below-next : (k : Bytes) (n m : Node) (ns : List Node) → Tiled B (n ∷ m ∷ ns) → m .low ≼ k → All (Below k) (n .pairs)
   below-next k n m ns t u = all-mono (n .pairs) (λ q b. below-upto-trans b u) (under-upper (t .0 .0))
+
+  pub pairs-within : (ns : List Node) → Tiled B ns → All (Within B) (pairsOf ns)
+  pairs-within [] t = tt
+  pairs-within (n ∷ ns) t = all-append (Within B) (n .pairs) (pairsOf ns) (t .0 .0 .within) (pairs-within ns (t .1))
 
   pub rising-pairs : (ns : List Node) → Tiled B ns → Rising (pairsOf ns)
   rising-pairs [] t = tt

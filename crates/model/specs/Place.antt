@@ -3,10 +3,10 @@
 use Prim.Native.Nat.{_<_, _≤_, suc, zero, ℕ}
 use mathlib.Core.List.{List, [], _++_, _∷_, map}
 use mathlib.Core.Option.{none, some}
-use mathlib.Core.Path.{_≡_, refl}
+use mathlib.Core.Path.{_≡_, refl, subst, sym}
 use native.Mathlib.Omega.{arith}
 use lib.ListN.{drop, getD, length, take}
-use Rattle.lists.specs.All.{All}
+use Rattle.lists.specs.All.{All, all-at}
 use Rattle.model.specs.Map.{Above, Below, Pair, Rising, by, lookup, pair, put, remove}
 use Rattle.order.specs.Bytes.{Bytes, _≺_, cmp}
 use Rattle.order.specs.OrderLaws.{after, before, below-trans, cmp-after, cmp-before, cmp-drop, cmp-equal, equal, tri}
@@ -111,6 +111,42 @@ take-below d k (p ∷ m) (suc j) h r l =
     first-of [] j h a = absurd (omega arith)
     first-of (q ∷ m) zero h a = a .0
     first-of (q ∷ m) (suc j) h a = first-of m j (omega arith) (a .1)
+
+-- each key of a rising list stands at its own place
+pub place-of : (d : Pair) (m : List Pair) (j : ℕ) → j < length m → Rising m → place ((getD m j d) .key) m ≡ at j
+unfolding place
+place-of d [] j h r = absurd (omega arith)
+place-of d (p ∷ m) zero h r = rw (cmp-equal {a = p .key} refl)
+place-of d (p ∷ m) (suc j) h r = rw (cmp-after (all-at (Above (p .key)) m j d (omega arith) (r .0)), place-of d m j (omega arith) (r .1))
+
+-- and the pair at a key's place has that key
+
+abbrev KeyedBy : Pair → Bytes → List Pair → Place → Type 0
+KeyedBy d k m (at j) = (j < length m) × ((getD m j d) .key ≡ k)
+KeyedBy d k m (gap j) = Unit {0}
+
+keyed-next : (d : Pair) (k : Bytes) (p : Pair) (m : List Pair) (x : Place) → KeyedBy d k m x → KeyedBy d k (p ∷ m) (next x)
+keyed-next d k p m (at j) e = (omega (arith, e .0), e .1)
+keyed-next d k p m (gap j) e = tt
+
+keyed-by : (d : Pair) (k : Bytes) (m : List Pair) → KeyedBy d k m (place k m)
+unfolding place
+keyed-by d k [] = tt
+keyed-by d k (p ∷ m) =
+    elim (tri k (p .key)) [
+      | before h ↦ rw (cmp-before h) tt
+      | equal e ↦ rw (cmp-equal e) (omega arith, sym e)
+      | after h ↦ rw (cmp-after h) (keyed-next d k p m (place k m) (keyed-by d k m))
+    ]
+
+pub place-key : (d : Pair) (k : Bytes) (m : List Pair) (j : ℕ) → place k m ≡ at j → (j < length m) × ((getD m j d) .key ≡ k)
+place-key d k m j e = subst (KeyedBy d k m) e (keyed-by d k m)
+
+pub place-lookup : (d : Pair) (k : Bytes) (m : List Pair) (j : ℕ) → place k m ≡ at j → lookup k m ≡ some ((getD m j d) .value)
+place-lookup d k m j e = subst (LookupBy d k m) e (lookup-by d k m) .1
+
+pub gap-lookup : (k : Bytes) (m : List Pair) (j : ℕ) → place k m ≡ gap j → lookup k m ≡ none
+gap-lookup k m j e = subst (LookupBy (pair [] []) k m) e (lookup-by (pair [] []) k m) .1
 
 -- the same place among suffixes, where k and all keys share their first c bytes
 

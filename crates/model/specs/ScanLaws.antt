@@ -2,23 +2,24 @@
 -- beside an open bound plays no part.
 -- Assumes nothing.
 use Prim.Native.Nat.{ℕ}
-use mathlib.Core.Bool.{and-false, false, true≢false}
+use mathlib.Core.Bool.{and-false, false, true, true≢false}
 use mathlib.Core.List.{List, [], _++_, _∷_}
 use mathlib.Core.Option.{Option, none, some}
-use mathlib.Core.Path.{_∙_, _≡_, refl, sym}
+use mathlib.Core.Path.{_∙_, _≡_, ap, refl, sym}
+use native.Mathlib.Omega.{arith}
 use lib.ListN.{drop}
 use Rattle.lists.specs.All.{All, all-mono}
-use Rattle.model.specs.Answers.{bothKeyed, rangeAnswer}
+use Rattle.model.specs.Answers.{bothKeyed, keyWritten, rangeAnswer, rangeFound}
 use Rattle.model.specs.Good.{Bounds, Tiled}
 use Rattle.model.specs.LeafViews.{fails, holds, on, side, stay, truth}
 use Rattle.model.specs.Leaves.{Node, owner, pairsOf}
-use Rattle.model.specs.Map.{Below, Pair, Rising, beforeEnd, firstIn, inRange, pastStart}
+use Rattle.model.specs.Map.{Above, Below, Pair, Rising, beforeEnd, firstIn, inRange, lookup, pastStart}
 use Rattle.model.specs.declared.Bound.{Bound}
 use Rattle.model.specs.declared.Bound.the-variants.{Excluded, Included, Open}
 use Rattle.model.specs.declared.Range.{Range}
 use Rattle.order.specs.Bytes.{Bytes, _≺_, _≼_}
 use Rattle.lists.specs.Exact.{Exact, exact-no, exact-yes}
-use Rattle.order.specs.OrderLaws.{after, before, below-asym, below-upto-trans, cmp-after, cmp-before, cmp-equal, equal, tri, upto-below-trans, upto-of-eq}
+use Rattle.order.specs.OrderLaws.{after, before, below-asym, below-upto-trans, cmp-after, cmp-before, cmp-equal, cmp-refl, equal, tri, upto-below-trans, upto-of-eq}
 
 -- a pair out of the range
 abbrev pub Out : Range → (start end : Bytes) → Pair → Type 0
@@ -51,6 +52,31 @@ module _ (r : Range) (s e : Bytes) where
   unfolding firstIn
   first-out [] a = refl
   first-out (p ∷ l) a = rw (a .0) (first-out l (a .1))
+
+  -- the pair found is one of them, and in the range
+  pub first-found : (P : Pair → Type 0) (m : List Pair) (p : Pair) → All P m → firstIn r s e m ≡ some p → P p × (inRange r s e (p .key) ≡ true)
+  unfolding firstIn
+  first-found P [] p a = λ (f : none ≡ some p). absurd (let z : _≡_ {A = ℕ} 0 1 = cc f in omega (arith, z))
+  first-found P (q ∷ m) p a =
+      elim (truth (inRange r s e (q .key))) [
+        | holds h ↦ rw h
+            (λ (f : some q ≡ some p).
+            let g : q ≡ p = cc f in
+            (rw g at (a .0), rw g at h))
+        | fails h ↦ rw h (λ f. first-found P m p (a .1) f)
+      ]
+
+  pub first-lookup : (m : List Pair) (p : Pair) → Rising m → firstIn r s e m ≡ some p → lookup (p .key) m ≡ some (p .value)
+  unfolding firstIn lookup
+  first-lookup [] p a = λ (f : none ≡ some p). absurd (let z : _≡_ {A = ℕ} 0 1 = cc f in omega (arith, z))
+  first-lookup (q ∷ m) p a =
+      elim (truth (inRange r s e (q .key))) [
+        | holds h ↦ rw h
+            (λ (f : some q ≡ some p).
+            let g : q ≡ p = cc f in
+            rw g (rw (cmp-refl (p .key))))
+        | fails h ↦ rw h (λ f. rw (cmp-after (first-found (Above (q .key)) m p (a .0) f .0)) (first-lookup m p (a .1) f))
+      ]
 
   -- by leaves: a leaf without a pair in the range is passed over
   pub first-leaves : (n : Node) (ns : List Node) → firstIn r s e (pairsOf (n ∷ ns)) ≡ orElse (firstIn r s e (n .pairs)) (firstIn r s e (pairsOf ns))
@@ -108,16 +134,22 @@ unfolding firstIn
 open-end r s e e′ [] h = refl
 open-end r s e e′ (p ∷ m) h = rw (open-end r s e e′ m h, h)
 
+pub found-open-start : (r : Range) (s s′ e : Bytes) (ns : List Node) → r .start ≡ Open → rangeFound r s e ns ≡ rangeFound r s′ e ns
+found-open-start r s s′ e ns h = rw (open-start r s s′ e (pairsOf ns) h, h)
+
 pub range-open-start : (r : Range) (s s′ e : Bytes) (out : ℕ) (ns : List Node) → r .start ≡ Open → rangeAnswer r s e out ns ≡ rangeAnswer r s′ e out ns
-range-open-start r s s′ e out ns h = rw (open-start r s s′ e (pairsOf ns) h, h)
+range-open-start r s s′ e out ns h = ap (keyWritten out) (found-open-start r s s′ e ns h)
 
 not-keyed : (b : Bound) → bothKeyed b Open ≡ false
 not-keyed Included = refl
 not-keyed Excluded = refl
 not-keyed Open = refl
 
+pub found-open-end : (r : Range) (s e e′ : Bytes) (ns : List Node) → r .end ≡ Open → rangeFound r s e ns ≡ rangeFound r s e′ ns
+found-open-end r s e e′ ns h = rw (open-end r s e e′ (pairsOf ns) h, h, not-keyed (r .start))
+
 pub range-open-end : (r : Range) (s e e′ : Bytes) (out : ℕ) (ns : List Node) → r .end ≡ Open → rangeAnswer r s e out ns ≡ rangeAnswer r s e′ out ns
-range-open-end r s e e′ out ns h = rw (open-end r s e e′ (pairsOf ns) h, h, not-keyed (r .start))
+range-open-end r s e e′ out ns h = ap (keyWritten out) (found-open-end r s e e′ ns h)
 
 -- what each kind of bound takes in, as document 01 names it
 pub start-included : (s k : Bytes) → Exact (pastStart Included s k) (s ≼ k)

@@ -95,7 +95,7 @@ module _ (r : Range) (s e : Bytes) where
       not-after : k ≼ p .key → lookup k (within r s e m) ≡ none
       not-after h = lookup-above k (within r s e m) (all-within (Above k) m (all-mono m (λ q j. upto-below-trans h j) (a .0)))
 
-  length-within : (m : List Pair) → length (within r s e m) ≤ length m
+  pub length-within : (m : List Pair) → length (within r s e m) ≤ length m
   unfolding within
   length-within [] = omega arith
   length-within (p ∷ m) =
