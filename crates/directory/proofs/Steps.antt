@@ -6,6 +6,7 @@ use mathlib.Core.Path.{_∙_, _≡_, ap}
 use native.Mathlib.Numerals.{add-one}
 use native.Mathlib.Omega.{arith}
 use lib.ListN.{getD, length, length-set, set}
+use Rattle.directory.specs.TakeLaws.{taken-count, taken-leaf}
 use Rattle.directory.specs.Takes.{CanTakeOver, TakenList, TakenOver, Takes, takenWord}
 use Rattle.directory.specs.Used.{lent, usedFrom, usedTo, wordAt}
 use Rattle.layout.specs.DirectoryLaws.{take-over}
@@ -13,7 +14,6 @@ use Rattle.layout.specs.RegionLaws.{Owns, owns-kept}
 use Rattle.layout.specs.UsedLaws.{used-remove}
 use Rattle.lists.specs.Part.{put, length-put, length-part, part, part-put-after, put-append, put-one}
 use Rattle.model.specs.Leaves.{Node}
-use Rattle.words.specs.Laws.{count-of-directory, count-small, leaf-of-directory}
 use Rattle.words.specs.Words.{directoryWord, firstSlot, wordCount, wordLeaf}
 
 -- the directory: one word replaced, the words behind the next moved down over it
@@ -25,12 +25,6 @@ dir-shrunk dir exit j k f h is =
 pub entries-room : (dir : List ℕ) (leaves j f : ℕ) → suc j < leaves → leaves ≤ length dir
     → (j + 2 + (leaves - (j + 2)) ≤ length (set dir j f)) × (j + 1 + (leaves - (j + 2)) ≤ length (set dir j f))
 entries-room dir leaves j f h k = rw (length-set dir j f) (omega arith, omega arith)
-
-taken-leaf : (dir : List ℕ) (j : ℕ) → wordLeaf (takenWord dir j) ≡ wordLeaf (wordAt dir j)
-taken-leaf dir j = leaf-of-directory (wordLeaf (wordAt dir j)) (wordCount (wordAt dir (suc j))) (count-small (wordAt dir (suc j)))
-
-taken-count : (dir : List ℕ) (j : ℕ) → wordCount (takenWord dir j) ≡ wordCount (wordAt dir (suc j))
-taken-count dir j = count-of-directory (wordLeaf (wordAt dir j)) (wordCount (wordAt dir (suc j))) (count-small (wordAt dir (suc j)))
 
 next-word : (dir : List ℕ) (j : ℕ) → getD dir (j + 1) 0 ≡ wordAt dir (suc j)
 next-word dir j = rw add-one

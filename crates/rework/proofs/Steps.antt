@@ -3,22 +3,19 @@
 use Prim.Native.Nat.{_+_, _-_, _<_, _^_, _≤_, ℕ}
 use mathlib.Core.List.{List, _∷_}
 use mathlib.Core.Path.{_∙_, _≡_, ap}
-use native.Mathlib.Nat.{add-zero}
 use native.Mathlib.Omega.{arith}
 use lib.ListN.{getD, length, take}
 use Rattle.directory.specs.Cuts.{CanCut, CutLeaf, CutList, leftWord, rightWord}
 use Rattle.lists.specs.Part.{getD-put-in, part, put}
 use Rattle.model.specs.Leaves.{Node, withPairs}
 use Rattle.order.specs.Bytes.{Bytes}
+use Rattle.rework.specs.PutLaws.{read-put}
 use Rattle.rework.specs.SplitLaws.{cuts-of, left-around, low-inside, right-around, split-list, written-long}
 use Rattle.rework.specs.Splits.{CanSplit, Split, Splits, cutSlots, grownSlots, splitSlots}
 use Rattle.slots.specs.Around.{Becomes, over}
 use Rattle.slots.specs.Edits.{Shortened, Shortens}
 use Rattle.slots.specs.EditsLaws.{shortens-of}
 use Rattle.words.specs.declared.LowKey.{LowKey}
-
-left-read : (dir : List ℕ) (j x : ℕ) (ys : List ℕ) → j < length dir → getD (put dir j (x ∷ ys)) j 0 ≡ x
-left-read dir j x ys h = rw add-zero at (getD-put-in dir j (x ∷ ys) 0 0 (omega arith) (omega arith))
 
 right-read : (dir : List ℕ) (j x y : ℕ) (ys : List ℕ) → j < length dir → getD (put dir j (x ∷ y ∷ ys)) (j + 1) 0 ≡ y
 right-read dir j x y ys h = getD-put-in dir j (x ∷ y ∷ ys) 1 0 (omega arith) (omega arith)
@@ -39,7 +36,7 @@ module _ {fanout leaves : ℕ} {dir slots arena : List ℕ} {j i free at : ℕ} 
   here = omega (arith, t .splits .room, t .splits .used)
 
   left-word : getD now-dir j 0 ≡ leftWord dir j i
-  left-word = rw (c .dir-is) (left-read dir j (leftWord dir j i) (rightWord dir j i free ∷ part dir (j + 1) (leaves - (j + 1))) here)
+  left-word = rw (c .dir-is) (read-put dir j (leftWord dir j i) (rightWord dir j i free ∷ part dir (j + 1) (leaves - (j + 1))) 0 here)
 
   right-word : getD now-dir (j + 1) 0 ≡ rightWord dir j i free
   right-word = rw (c .dir-is) (right-read dir j (leftWord dir j i) (rightWord dir j i free) (part dir (j + 1) (leaves - (j + 1))) here)

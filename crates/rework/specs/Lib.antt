@@ -1,5 +1,11 @@
 pub mod Splits
 pub mod SplitLaws
 pub mod Slides
+pub mod Each
+pub mod PutLaws
+pub mod WordsLaws
+pub mod SeenLaws
+pub mod EachLaws
 pub mod SlideLaws
 pub mod SplitMet
+pub mod EachMet

@@ -1,10 +1,16 @@
-// Edits that are several smaller ones in turn: a split of one leaf in the buffers, with the new low key written and the prefixes of both halves grown.
+// Edits that are several smaller ones in turn: a split of one leaf in the buffers, with the new low key written and the prefixes of both halves grown;
+// and every kind of edit in one chain.
+ghost use Rattle.rework.specs.Each.{CanEachEdit, EachEdit};
 ghost use Rattle.rework.specs.Slides.{CanSlideSplit, SlideSplit};
 ghost use Rattle.rework.specs.Splits.{CanSplit, Split};
 use arena::slide_pair;
 use directory::cut_leaf;
+use directory::take_over;
 use moves::copy_bytes;
+use slots::put_in;
+use slots::replace_value;
 use slots::shorten_keys;
+use slots::take_out;
 use words::LeafNo;
 use words::LowKey;
 use words::Offset;
@@ -61,4 +67,49 @@ pub fn slide_split(
 {
     slide_pair(slots, arena, fanout, dir[j], i, to);
     split_stored(dir, slots, arena, fanout, leaves, j, i, free, at, low, g, h)
+}
+
+// Every kind of edit in one chain, which no call of the index makes: it shows that the edit laws fit each other. The j-th leaf takes over the next
+// one's words; of these the i-th gives way to a new pair, whose value is then replaced; and the leaf is split there, the new pair slid up.
+pub fn each_edit(
+    dir: &mut [u32],
+    slots: &mut [u64],
+    arena: &mut [u8],
+    fanout: usize,
+    leaves: usize,
+    j: usize,
+    i: usize,
+    place: Offset,
+    suffix: &[u8],
+    first: &[u8],
+    second: &[u8],
+    to: Offset,
+    free: LeafNo,
+    at: Offset,
+    low: &[u8],
+    g: usize,
+    h: usize,
+)
+    requires { ⌜ CanEachEdit fanout leaves (now dir) (now slots) (now arena) j i (place .0) (now suffix) (now first) (now second) (to .0) (free .0) (at .0) (now low) g h ⌝ }
+    ensures { λ _. ⌜ EachEdit fanout leaves (now (dir .entry)) (now (slots .entry)) (now (arena .entry)) j i (place .0) (now (suffix .entry)) (now (first .entry)) (now (second .entry)) (to .0) (free .0) (at .0) (now (low .entry)) g h (now (dir .exit)) (now (slots .exit)) (now (arena .exit)) ⌝ }
+{
+    take_over(dir, slots, fanout, leaves, j);
+    take_out(dir, slots, fanout, j, i);
+    put_in(dir, slots, arena, fanout, j, i, place, suffix, first);
+    replace_value(slots, arena, fanout, dir[j], i, second);
+    slide_split(
+        dir,
+        slots,
+        arena,
+        fanout,
+        leaves - 1,
+        j,
+        i,
+        to,
+        free,
+        at,
+        low,
+        g,
+        h,
+    )
 }

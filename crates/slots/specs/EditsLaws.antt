@@ -135,7 +135,8 @@ shortens-of fanout slots arena d g a top long shares =
 
 -- a value replaced
 
-word-here : (fanout : ℕ) (slots arena : List ℕ) (d i : ℕ) → i < wordCount d → getD slots (slotOf fanout d i) 0 ≡ getD (slotWords (over fanout slots arena) d) i 0
+-- the word at a slot
+pub word-here : (fanout : ℕ) (slots arena : List ℕ) (d i : ℕ) → i < wordCount d → getD slots (slotOf fanout d i) 0 ≡ getD (slotWords (over fanout slots arena) d) i 0
 unfolding slotWords
 word-here fanout slots arena d i h = sym (getD-part slots (firstSlot fanout (wordLeaf d)) (wordCount d) i 0 h)
 
