@@ -1,3 +1,5 @@
 pub mod Leaf
 pub mod Keys
 pub mod KeyLaws
+pub mod Finds
+pub mod FindLaws

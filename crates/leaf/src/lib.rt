@@ -1,5 +1,5 @@
-// The leaf's own type: its constructor and document 01's limits on keys, values and fanout. Its upper key and prefix length.
-ghost use mathlib.Core.Path.{_≡_};
+// The leaf's own type: its constructor and document 01's limits on keys, values and fanout. Its upper key and prefix length. What
+// the search in its slots answers.
 ghost use Prim.Native.Nat.{_<_, _≤_};
 ghost use Rattle.lists.specs.Exact.{Exact};
 ghost use Rattle.model.specs.Limits.{keyLimit, valueLimit, fanoutLeast, fanoutLimit};
@@ -8,6 +8,8 @@ ghost use Rattle.leaf.specs.Keys.{KeyAt, UpperAt, PrefixOf};
 use order::common;
 use words::LeafNo;
 use words::LowKey;
+
+pub mod search;
 
 // A leaf by value: its number in the pool, its fanout, how many pairs it has, and its prefix length.
 pub struct Leaf {
@@ -79,4 +81,10 @@ pub fn prefix_length(arena: &[u8], low: LowKey, upper: Upper) -> usize
     let end_i = i + low.length;
     let end_j = j + u.length;
     common(&arena[i..end_i], &arena[j..end_j])
+}
+
+// Where a key stands in a leaf, counted in slots from the leaf's first: at a pair, or in the gap before one.
+pub enum Find {
+    At(usize),
+    Gap(usize),
 }

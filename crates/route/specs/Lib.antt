@@ -1,0 +1,4 @@
+pub mod Routes
+pub mod RouteLaws
+pub mod FindRouted
+pub mod Lookups
