@@ -1,0 +1,5 @@
+pub mod End
+pub mod Outcome
+pub mod EndLaws
+pub mod RangeLaws
+pub mod Coincide
