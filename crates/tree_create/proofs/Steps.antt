@@ -98,7 +98,7 @@ module _ (h : Header) (dir slots arena : List ℕ) where
   clear-done w m = record { damaged = λ n. absurd (n w); held = λ v. freshened arena (v .holds .sizes) m }
 
   pub len-refused : (W h dir slots arena → ⊥) → LenOutcome h dir slots arena (Unmeasured Damaged)
-  len-refused n = record { damaged = λ m. refl; held = λ w. absurd (n w) }
+  len-refused n = record { damaged = λ m. record { answer-is = refl; code-is = refl }; held = λ w. absurd (n w) }
 
   pub len-counted : W h dir slots arena → LenOutcome h dir slots arena (Pairs (h .pairs))
-  len-counted w = record { damaged = λ n. absurd (n w); held = λ v. ap Pairs (v .holds .pairs-are) }
+  len-counted w = record { damaged = λ n. absurd (n w); held = λ v. record { answer-is = ap Pairs (v .holds .pairs-are); code-is = refl } }

@@ -59,8 +59,8 @@ clear-coincides h dir slots arena a b =
 pub len-coincides : (h : Header) (dir slots arena : List ℕ) {r q : Length} → LenOutcome h dir slots arena r → LenOutcome h dir slots arena q → r ≡ q
 len-coincides h dir slots arena a b =
     elim (dec-w h dir slots arena) [
-      | yes w ↦ a .held w ∙ sym (b .held w)
-      | no n ↦ a .damaged n ∙ sym (b .damaged n)
+      | yes w ↦ a .held w .answer-is ∙ sym (b .held w .answer-is)
+      | no n ↦ a .damaged n .answer-is ∙ sym (b .damaged n .answer-is)
     ]
 
 -- creation and `clear` leave an index

@@ -8,7 +8,7 @@ use Rattle.layout.specs.Examples.{header}
 use Rattle.layout.specs.Lays.{Holds}
 use Rattle.layout.specs.declared.Header.{Header}
 use Rattle.lists.specs.Part.{put}
-use Rattle.model.specs.Answers.{numberOf, Answer, accepted, clearAnswer, createAnswer, lenAnswer, refused}
+use Rattle.model.specs.Answers.{Answer, Code, Gives, accepted, answerCode, clearAnswer, codeOf, createAnswer, lenAnswer, noRefusal, numberOf, refused}
 use Rattle.model.specs.Leaves.{Node}
 use Rattle.model.specs.declared.Refusal.{Refusal}
 use Rattle.model.specs.declared.Refusal.the-variants.{Damaged}
@@ -63,5 +63,10 @@ abbrev pub lenTold : Answer ℕ → Length
 lenTold (refused x) = Unmeasured x
 lenTold (accepted n) = Pairs n
 
+abbrev pub lengthCode : Length → Code
+lengthCode (Pairs n) = noRefusal
+lengthCode (Unmeasured x) = codeOf x
+
 abbrev pub LenOutcome : Header → (dir slots arena : List ℕ) → Length → Type 0
-LenOutcome h dir slots arena r = Entry h dir slots arena (r ≡ Unmeasured Damaged) (λ ns. r ≡ lenTold (lenAnswer ns))
+LenOutcome h dir slots arena r =
+    Entry h dir slots arena (Gives lengthCode (Unmeasured Damaged) (codeOf Damaged) r) (λ ns. Gives lengthCode (lenTold (lenAnswer ns)) (answerCode (lenAnswer ns)) r)

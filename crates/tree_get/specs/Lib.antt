@@ -1,0 +1,4 @@
+pub mod Outcomes
+pub mod GetLaws
+pub mod ValueLaws
+pub mod Coincide
