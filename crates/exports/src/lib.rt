@@ -14,6 +14,9 @@ use tree_create::create;
 use tree_create::len;
 use tree_read::check::holds_index;
 
+pub mod reads;
+pub mod scans;
+
 // A refusal's number and the length that it also returns, or 0 and the call's own number.
 #[repr(C)]
 pub struct Told {

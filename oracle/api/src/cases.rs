@@ -11,7 +11,7 @@ pub fn run(side: &dyn Side, seed: u64) -> Result<Tally, String> {
         for (twin, held) in [("twin of ", &mut case.good), ("", &mut case.damaged)] {
             let answer = compare(side, Call::HoldsIndex(held.0), &mut held.1)
                 .map_err(|report| format!("seed {seed}, {twin}{}: {report}", case.name))?;
-            tally.add(answer);
+            tally.add(answer.outcome());
         }
     }
     Ok(tally)

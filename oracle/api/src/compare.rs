@@ -2,7 +2,7 @@
 
 use crate::exports::Reply;
 use crate::sides::{Answer, Call, Reference, Side};
-use reference::buffers::Buffers;
+use reference::buffers::{Buffers, Header};
 use reference::layout::read;
 use reference::leaves::Leaves;
 use reference::w::first_broken;
@@ -39,7 +39,7 @@ fn read_as_fresh(answer: Answer, lent: &Buffers) -> Result<Answer, String> {
     Ok(answer)
 }
 
-fn sizes(lent: &Buffers) -> String {
+pub(crate) fn sizes(lent: &Buffers) -> String {
     let Buffers { dir, slots, arena } = lent;
     let (dir, slots, arena) = (dir.len(), slots.len(), arena.len());
     format!("{dir} directory words, {slots} slot words, {arena} bytes")
@@ -53,13 +53,17 @@ fn state(call: Call, right: Answer, left: &Buffers) -> String {
     if let Answer::Changed(Reply { refusal: 0, .. }) = right {
         return " that meet W".to_string();
     }
-    match first_broken(&header, &left.dir, &left.slots, &left.arena) {
+    verdict(&header, left)
+}
+
+pub(crate) fn verdict(header: &Header, lent: &Buffers) -> String {
+    match first_broken(header, &lent.dir, &lent.slots, &lent.arena) {
         Some(clause) => format!(" that break \"{clause}\""),
         None => " that meet W".to_string(),
     }
 }
 
-fn first_other(left: &Buffers, expected: &Buffers) -> String {
+pub(crate) fn first_other(left: &Buffers, expected: &Buffers) -> String {
     fn at<T: PartialEq>(name: &str, left: &[T], expected: &[T]) -> Option<String> {
         let mut both = left.iter().zip(expected);
         let at = both.position(|(one, other)| one != other)?;

@@ -39,7 +39,7 @@ pub fn run(side: &dyn Side, seed: u64) -> Result<Tally, String> {
                     lent.arena.truncate(arena);
                     let answer = compare(side, Call::Create(fanout), &mut lent)
                         .map_err(|report| format!("seed {seed}: {report}"))?;
-                    tally.add(answer);
+                    tally.add(answer.outcome());
                 }
             }
         }

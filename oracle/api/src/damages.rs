@@ -29,7 +29,7 @@ pub fn run(side: &dyn Side, seed: u64, damages: usize) -> Result<Tally, String> 
         damage(random.word(), &mut header, &mut lent);
         let answer = compare(side, Call::HoldsIndex(header), &mut lent)
             .map_err(|report| format!("seed {seed}, damage {number}: {report}"))?;
-        tally.add(answer);
+        tally.add(answer.outcome());
     }
     Ok(tally)
 }

@@ -1,19 +1,22 @@
-//! The archive's functions, declared, and safe calls of them.
+//! The archive's functions and their answers, declared. All that a Rust program
+//! needs is here, but for `Header`: four `usize`, in C's order.
 //!
 //! A slice is two arguments, its pointer and its length. Don't declare it as a
 //! `&[T]`: where one register is left, Rust passes both words on the stack,
 //! but the archive takes the pointer from the register.
+//!
+//! In each answer refusal 0 says that the call was accepted. What an answer
+//! doesn't tell is 0.
 
 #![allow(unsafe_code)]
 // On other machines these are only checked; `far` makes the calls.
 #![cfg_attr(not(target_arch = "x86_64"), allow(dead_code))]
 
-use reference::buffers::{Buffers, Header};
-use std::time::{Duration, Instant};
+use reference::buffers::Header;
 
-/// Refusal 0: accepted, and the length is the call's own number.
+/// The length is the call's own number.
 #[repr(C)]
-#[derive(Clone, Copy, Debug, PartialEq, Eq)]
+#[derive(Clone, Copy, Debug, Default, PartialEq, Eq)]
 pub struct Told {
     pub refusal: usize,
     pub length: usize,
@@ -28,8 +31,63 @@ pub struct Reply {
     pub header: Header,
 }
 
+/// Found 1: the value's place in the arena. 0: none.
+#[repr(C)]
+#[derive(Clone, Copy, Debug, Default, PartialEq, Eq)]
+pub struct Place {
+    pub refusal: usize,
+    pub found: usize,
+    pub offset: usize,
+    pub length: usize,
+}
+
+/// Found 1: the key's length in the output, the value's place. 0: the end. The
+/// length is what refusal 5 needs.
+#[repr(C)]
+#[derive(Clone, Copy, Debug, Default, PartialEq, Eq)]
+pub struct Scan {
+    pub refusal: usize,
+    pub length: usize,
+    pub found: usize,
+    pub key: usize,
+    pub offset: usize,
+    pub value: usize,
+}
+
+/// The kinds of a range's bounds, and the length of the end in the output. The
+/// length is what refusal 5 needs.
+#[repr(C)]
+#[derive(Clone, Copy, Debug, Default, PartialEq, Eq)]
+pub struct Span {
+    pub refusal: usize,
+    pub length: usize,
+    pub start: usize,
+    pub end: usize,
+    pub end_length: usize,
+}
+
+/// Found 1: a leaf, its keys by their places in the arena. 0: none.
+#[repr(C)]
+#[derive(Clone, Copy, Debug, Default, PartialEq, Eq)]
+pub struct Shown {
+    pub refusal: usize,
+    pub found: usize,
+    pub low_offset: usize,
+    pub low_length: usize,
+    pub has_upper: usize,
+    pub upper_offset: usize,
+    pub upper_length: usize,
+    pub prefix_length: usize,
+    pub pairs: usize,
+}
+
+/// Kinds of a bound. Every other number is open too.
+pub const INCLUDED: usize = 0;
+pub const EXCLUDED: usize = 1;
+pub const OPEN: usize = 2;
+
 unsafe extern "C" {
-    fn olybzhan_holds_index_by_value(
+    pub(crate) fn olybzhan_holds_index_by_value(
         header: Header,
         dir: *const u32,
         dir_len: usize,
@@ -39,7 +97,7 @@ unsafe extern "C" {
         arena_len: usize,
     ) -> bool;
 
-    fn olybzhan_create_by_value(
+    pub(crate) fn olybzhan_create_by_value(
         fanout: usize,
         dir: *mut u32,
         dir_len: usize,
@@ -49,7 +107,7 @@ unsafe extern "C" {
         arena_len: usize,
     ) -> Reply;
 
-    fn olybzhan_clear_by_value(
+    pub(crate) fn olybzhan_clear_by_value(
         header: Header,
         dir: *mut u32,
         dir_len: usize,
@@ -59,7 +117,7 @@ unsafe extern "C" {
         arena_len: usize,
     ) -> Reply;
 
-    fn olybzhan_len_by_value(
+    pub(crate) fn olybzhan_len_by_value(
         header: Header,
         dir: *const u32,
         dir_len: usize,
@@ -68,76 +126,91 @@ unsafe extern "C" {
         arena: *const u8,
         arena_len: usize,
     ) -> Told;
-}
 
-// Safe: none of the functions requires anything of its caller but slices, and
-// each slice here is a live one with its own length.
+    /// The length is 1 where the key is held.
+    pub(crate) fn olybzhan_contains_key_by_value(
+        header: Header,
+        dir: *const u32,
+        dir_len: usize,
+        slots: *const u64,
+        slots_len: usize,
+        arena: *const u8,
+        arena_len: usize,
+        key: *const u8,
+        key_len: usize,
+    ) -> Told;
 
-pub(crate) fn holds_index(header: Header, lent: &Buffers) -> bool {
-    let Buffers { dir, slots, arena } = lent;
-    unsafe {
-        olybzhan_holds_index_by_value(
-            header,
-            dir.as_ptr(),
-            dir.len(),
-            slots.as_ptr(),
-            slots.len(),
-            arena.as_ptr(),
-            arena.len(),
-        )
-    }
-}
+    pub(crate) fn olybzhan_get_by_value(
+        header: Header,
+        dir: *const u32,
+        dir_len: usize,
+        slots: *const u64,
+        slots_len: usize,
+        arena: *const u8,
+        arena_len: usize,
+        key: *const u8,
+        key_len: usize,
+    ) -> Place;
 
-pub(crate) fn create(fanout: usize, lent: &mut Buffers) -> Reply {
-    let Buffers { dir, slots, arena } = lent;
-    unsafe {
-        olybzhan_create_by_value(
-            fanout,
-            dir.as_mut_ptr(),
-            dir.len(),
-            slots.as_mut_ptr(),
-            slots.len(),
-            arena.as_ptr(),
-            arena.len(),
-        )
-    }
-}
+    pub(crate) fn olybzhan_first_in_range_by_value(
+        header: Header,
+        dir: *const u32,
+        dir_len: usize,
+        slots: *const u64,
+        slots_len: usize,
+        arena: *const u8,
+        arena_len: usize,
+        start_kind: usize,
+        end_kind: usize,
+        start: *const u8,
+        start_len: usize,
+        end: *const u8,
+        end_len: usize,
+        out: *mut u8,
+        out_len: usize,
+    ) -> Scan;
 
-pub(crate) fn clear(header: Header, lent: &mut Buffers) -> Reply {
-    let Buffers { dir, slots, arena } = lent;
-    unsafe {
-        olybzhan_clear_by_value(
-            header,
-            dir.as_mut_ptr(),
-            dir.len(),
-            slots.as_mut_ptr(),
-            slots.len(),
-            arena.as_ptr(),
-            arena.len(),
-        )
-    }
-}
+    pub(crate) fn olybzhan_get_gt_by_value(
+        header: Header,
+        dir: *const u32,
+        dir_len: usize,
+        slots: *const u64,
+        slots_len: usize,
+        arena: *const u8,
+        arena_len: usize,
+        key: *const u8,
+        key_len: usize,
+        out: *mut u8,
+        out_len: usize,
+    ) -> Scan;
 
-pub(crate) fn len(header: Header, lent: &Buffers) -> Told {
-    let Buffers { dir, slots, arena } = lent;
-    unsafe {
-        olybzhan_len_by_value(
-            header,
-            dir.as_ptr(),
-            dir.len(),
-            slots.as_ptr(),
-            slots.len(),
-            arena.as_ptr(),
-            arena.len(),
-        )
-    }
-}
+    pub(crate) fn olybzhan_first_by_value(
+        header: Header,
+        dir: *const u32,
+        dir_len: usize,
+        slots: *const u64,
+        slots_len: usize,
+        arena: *const u8,
+        arena_len: usize,
+        out: *mut u8,
+        out_len: usize,
+    ) -> Scan;
 
-/// How long so many calls take.
-pub(crate) fn time_holds_index(header: Header, lent: &Buffers, times: u32) -> Duration {
-    let start = Instant::now();
-    for _ in 0..times {
-        std::hint::black_box(holds_index(header, lent));
-    }
-    start.elapsed()
+    pub(crate) fn olybzhan_scan_prefix(
+        prefix: *const u8,
+        prefix_len: usize,
+        end_out: *mut u8,
+        end_out_len: usize,
+    ) -> Span;
+
+    pub(crate) fn olybzhan_leaf_at_by_value(
+        header: Header,
+        dir: *const u32,
+        dir_len: usize,
+        slots: *const u64,
+        slots_len: usize,
+        arena: *const u8,
+        arena_len: usize,
+        at: usize,
+    ) -> Shown;
 }

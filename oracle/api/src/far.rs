@@ -1,9 +1,10 @@
 //! The same calls on a machine that the archive isn't for: `far/far.c` makes
 //! them under the toolchain's emulator.
 
-use crate::exports::{Reply, Told};
+use crate::exports::{Place, Reply, Scan, Shown, Span, Told};
+use crate::reads::{Read, Reading};
 use reference::buffers::{Buffers, Header};
-use std::io::{Read, Result, Write};
+use std::io::{self, Read as _, Result, Write};
 use std::process::{Child, ChildStdin, ChildStdout, Command, Stdio};
 use std::sync::Mutex;
 use std::time::Duration;
@@ -15,10 +16,28 @@ enum Call {
     Create,
     Clear,
     Len,
+    ContainsKey,
+    Get,
+    FirstInRange,
+    GetGt,
+    First,
+    ScanPrefix,
+    LeafAt,
+}
+
+struct Request<'a> {
+    call: Call,
+    times: u32,
+    header: Header,
+    lent: &'a Buffers,
+    /// The kinds of two bounds, or a leaf's place.
+    numbers: [usize; 2],
+    /// A key, prefix or start, and an end.
+    keys: [&'a [u8]; 2],
 }
 
 struct Answer {
-    reply: Reply,
+    words: [usize; 9],
     time: Duration,
 }
 
@@ -32,7 +51,8 @@ struct Far {
 static FAR: Mutex<Option<Far>> = Mutex::new(None);
 
 pub fn holds_index(header: Header, lent: &Buffers) -> bool {
-    read_by(Call::HoldsIndex, header, lent).reply.length == 1
+    let answer = Request::of(Call::HoldsIndex, header, lent).answer(&mut []);
+    answer.words[0] == 1
 }
 
 pub fn create(fanout: usize, lent: &mut Buffers) -> Reply {
@@ -51,43 +71,52 @@ pub fn clear(header: Header, lent: &mut Buffers) -> Reply {
 }
 
 pub fn len(header: Header, lent: &Buffers) -> Told {
-    let Reply {
-        refusal, length, ..
-    } = read_by(Call::Len, header, lent).reply;
-    Told { refusal, length }
+    told(Request::of(Call::Len, header, lent).answer(&mut []).words)
+}
+
+pub fn read(read: Read, header: Header, lent: &Buffers, out: &mut [u8]) -> Reading {
+    let words = Request::to_read(read, header, lent).answer(out).words;
+    match read {
+        Read::ContainsKey(_) => Reading::Told(told(words)),
+        Read::Get(_) => Reading::Place(place(words)),
+        Read::FirstInRange(..) | Read::GetGt(_) | Read::First => Reading::Scan(scan(words)),
+        Read::ScanPrefix(_) => Reading::Span(span(words)),
+        Read::LeafAt(_) => Reading::Shown(shown(words)),
+    }
 }
 
 pub fn time_holds_index(header: Header, lent: &Buffers, times: u32) -> Duration {
-    let answer = with_far(Call::HoldsIndex, |far| {
-        far.request(Call::HoldsIndex, times, header, lent)?;
-        far.answer()
-    });
-    answer.time
+    let request = Request::of(Call::HoldsIndex, header, lent);
+    Request { times, ..request }.answer(&mut []).time
 }
 
-fn read_by(call: Call, header: Header, lent: &Buffers) -> Answer {
-    with_far(call, |far| {
-        far.request(call, 1, header, lent)?;
-        far.answer()
-    })
+pub fn time_read(
+    read: Read,
+    header: Header,
+    lent: &Buffers,
+    out: &mut [u8],
+    times: u32,
+) -> Duration {
+    let request = Request::to_read(read, header, lent);
+    Request { times, ..request }.answer(out).time
 }
 
 fn change_by(call: Call, header: Header, lent: &mut Buffers) -> Reply {
-    with_far(call, |far| {
-        far.request(call, 1, header, lent)?;
-        let answer = far.answer()?;
-        let mut bytes = vec![0; 4 * lent.dir.len()];
-        far.answers.read_exact(&mut bytes)?;
-        for (word, bytes) in lent.dir.iter_mut().zip(bytes.chunks_exact(4)) {
-            *word = u32::from_le_bytes(bytes.try_into().expect("4 bytes"));
-        }
-        bytes.resize(8 * lent.slots.len(), 0);
-        far.answers.read_exact(&mut bytes)?;
-        for (word, bytes) in lent.slots.iter_mut().zip(bytes.chunks_exact(8)) {
-            *word = u64::from_le_bytes(bytes.try_into().expect("8 bytes"));
-        }
-        Ok(answer.reply)
-    })
+    let (mut dir, mut slots) = (vec![0; 4 * lent.dir.len()], vec![0; 8 * lent.slots.len()]);
+    let request = Request::of(call, header, lent);
+    let answer = with_far(call, |far| {
+        let answer = far.answer(&request, &mut [])?;
+        far.answers.read_exact(&mut dir)?;
+        far.answers.read_exact(&mut slots)?;
+        Ok(answer)
+    });
+    for (word, bytes) in lent.dir.iter_mut().zip(dir.chunks_exact(4)) {
+        *word = u32::from_le_bytes(bytes.try_into().expect("4 bytes"));
+    }
+    for (word, bytes) in lent.slots.iter_mut().zip(slots.chunks_exact(8)) {
+        *word = u64::from_le_bytes(bytes.try_into().expect("8 bytes"));
+    }
+    reply(answer.words)
 }
 
 /// Panics where the call crashes.
@@ -104,6 +133,71 @@ fn with_far<T>(call: Call, work: impl FnOnce(&mut Far) -> Result<T>) -> T {
             let status = running.child.wait().expect("an end");
             panic!("{call:?} crashed: {status}");
         }
+    }
+}
+
+impl<'a> Request<'a> {
+    fn of(call: Call, header: Header, lent: &'a Buffers) -> Request<'a> {
+        Request {
+            call,
+            times: 1,
+            header,
+            lent,
+            numbers: [0; 2],
+            keys: [&[]; 2],
+        }
+    }
+
+    fn to_read(read: Read<'a>, header: Header, lent: &'a Buffers) -> Request<'a> {
+        let (call, numbers, keys): (Call, [usize; 2], [&[u8]; 2]) = match read {
+            Read::ContainsKey(key) => (Call::ContainsKey, [0; 2], [key, &[]]),
+            Read::Get(key) => (Call::Get, [0; 2], [key, &[]]),
+            Read::FirstInRange(kinds, start, end) => (Call::FirstInRange, kinds, [start, end]),
+            Read::GetGt(key) => (Call::GetGt, [0; 2], [key, &[]]),
+            Read::First => (Call::First, [0; 2], [&[]; 2]),
+            Read::ScanPrefix(prefix) => (Call::ScanPrefix, [0; 2], [prefix, &[]]),
+            Read::LeafAt(at) => (Call::LeafAt, [at, 0], [&[]; 2]),
+        };
+        Request {
+            numbers,
+            keys,
+            ..Request::of(call, header, lent)
+        }
+    }
+
+    fn answer(&self, out: &mut [u8]) -> Answer {
+        with_far(self.call, |far| far.answer(self, out))
+    }
+
+    fn bytes(&self, out: &[u8]) -> Vec<u8> {
+        let words = [
+            self.call as usize,
+            self.times as usize,
+            self.header.fanout,
+            self.header.leaves,
+            self.header.pairs,
+            self.header.charge,
+            self.lent.dir.len(),
+            self.lent.slots.len(),
+            self.lent.arena.len(),
+            self.numbers[0],
+            self.numbers[1],
+            self.keys[0].len(),
+            self.keys[1].len(),
+            out.len(),
+        ];
+        let mut bytes = words.map(usize::to_le_bytes).concat();
+        for word in &self.lent.dir {
+            bytes.extend_from_slice(&word.to_le_bytes());
+        }
+        for word in &self.lent.slots {
+            bytes.extend_from_slice(&word.to_le_bytes());
+        }
+        bytes.extend_from_slice(&self.lent.arena);
+        bytes.extend_from_slice(self.keys[0]);
+        bytes.extend_from_slice(self.keys[1]);
+        bytes.extend_from_slice(out);
+        bytes
     }
 }
 
@@ -128,48 +222,91 @@ impl Far {
         }
     }
 
-    fn request(&mut self, call: Call, times: u32, header: Header, lent: &Buffers) -> Result<()> {
-        let words = [
-            call as usize,
-            times as usize,
-            header.fanout,
-            header.leaves,
-            header.pairs,
-            header.charge,
-            lent.dir.len(),
-            lent.slots.len(),
-            lent.arena.len(),
-        ];
-        let mut bytes = words.map(usize::to_le_bytes).concat();
-        for word in &lent.dir {
-            bytes.extend_from_slice(&word.to_le_bytes());
-        }
-        for word in &lent.slots {
-            bytes.extend_from_slice(&word.to_le_bytes());
-        }
-        bytes.extend_from_slice(&lent.arena);
-        self.requests.write_all(&bytes)
-    }
-
-    fn answer(&mut self) -> Result<Answer> {
-        let mut bytes = [0; 7 * 8];
+    fn answer(&mut self, request: &Request, out: &mut [u8]) -> io::Result<Answer> {
+        self.requests.write_all(&request.bytes(out))?;
+        let mut bytes = [0; 10 * 8];
         self.answers.read_exact(&mut bytes)?;
+        self.answers.read_exact(out)?;
         let word = |at: usize| {
             let bytes = bytes[8 * at..][..8].try_into().expect("8 bytes");
             usize::from_le_bytes(bytes)
         };
-        let header = Header {
-            fanout: word(2),
-            leaves: word(3),
-            pairs: word(4),
-            charge: word(5),
-        };
-        let reply = Reply {
-            refusal: word(0),
-            length: word(1),
-            header,
-        };
-        let time = Duration::from_nanos(word(6) as u64);
-        Ok(Answer { reply, time })
+        Ok(Answer {
+            words: std::array::from_fn(word),
+            time: Duration::from_nanos(word(9) as u64),
+        })
+    }
+}
+
+fn told([refusal, length, ..]: [usize; 9]) -> Told {
+    Told { refusal, length }
+}
+
+fn reply([refusal, length, fanout, leaves, pairs, charge, ..]: [usize; 9]) -> Reply {
+    let header = Header {
+        fanout,
+        leaves,
+        pairs,
+        charge,
+    };
+    Reply {
+        refusal,
+        length,
+        header,
+    }
+}
+
+fn place([refusal, found, offset, length, ..]: [usize; 9]) -> Place {
+    Place {
+        refusal,
+        found,
+        offset,
+        length,
+    }
+}
+
+fn scan([refusal, length, found, key, offset, value, ..]: [usize; 9]) -> Scan {
+    Scan {
+        refusal,
+        length,
+        found,
+        key,
+        offset,
+        value,
+    }
+}
+
+fn span([refusal, length, start, end, end_length, ..]: [usize; 9]) -> Span {
+    Span {
+        refusal,
+        length,
+        start,
+        end,
+        end_length,
+    }
+}
+
+fn shown(words: [usize; 9]) -> Shown {
+    let [
+        refusal,
+        found,
+        low_offset,
+        low_length,
+        has_upper,
+        upper_offset,
+        upper_length,
+        prefix_length,
+        pairs,
+    ] = words;
+    Shown {
+        refusal,
+        found,
+        low_offset,
+        low_length,
+        has_upper,
+        upper_offset,
+        upper_length,
+        prefix_length,
+        pairs,
     }
 }

@@ -18,7 +18,7 @@ pub fn run(side: &dyn Side, seed: u64, indexes: usize) -> Result<Tally, String> 
         for call in [Call::Len(header), Call::Clear(header)] {
             let answer = compare(side, call, &mut lent)
                 .map_err(|report| format!("seed {seed}, index {number}: {report}"))?;
-            tally.add(answer);
+            tally.add(answer.outcome());
         }
     }
     Ok(tally)

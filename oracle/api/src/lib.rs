@@ -11,6 +11,11 @@ pub mod exports;
 #[cfg(not(target_arch = "x86_64"))]
 mod far;
 pub mod fresh;
+mod near;
+mod readers;
+pub mod reading;
+pub mod reads;
+pub mod session;
 pub mod sides;
 pub mod tally;
 pub mod times;

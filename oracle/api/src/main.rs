@@ -1,25 +1,33 @@
-//! `api [--seeds A-B] [--damages N]`: runs the archive's functions beside the
-//! reference. The last line counts what was compared; status 1 where something
-//! differs.
+//! `api [--seeds A-B] [--damages N] [--reads N]`: runs the archive's functions
+//! beside the reference. The last line counts what was compared; status 1 where
+//! something differs.
 
 #![forbid(unsafe_code)]
 
 use api::sides::Archive;
 use api::tally::Tally;
-use api::{cases, creations, damages, fresh, times};
+use api::{cases, creations, damages, fresh, reading, times};
 use std::env;
 use std::ops::RangeInclusive;
 use std::process::ExitCode;
+use std::time::Duration;
 
-const USAGE: &str = "api [--seeds A-B] [--damages N]";
+const USAGE: &str = "api [--seeds A-B] [--damages N] [--reads N]";
 /// `len` and `clear` run on this part of the number of damages.
 const FRESH_PART: usize = 10;
+/// These run on such parts of the number of indexes read, for they ask more of
+/// each.
+const RANGES_PART: usize = 2;
+const OUTPUTS_PART: usize = 8;
+const WALKS_PART: usize = 4;
 const TIMED: [usize; 3] = [40, 2_000, 20_000];
 
 struct Plan {
     seeds: RangeInclusive<u64>,
     /// Over all seeds.
     damages: usize,
+    /// Indexes read, over all seeds.
+    reads: usize,
 }
 
 fn main() -> ExitCode {
@@ -38,6 +46,7 @@ fn plan(arguments: &[String]) -> Option<Plan> {
     let mut plan = Plan {
         seeds: 1..=20,
         damages: 100_000,
+        reads: 1_000,
     };
     let mut words = arguments.iter();
     while let Some(word) = words.next() {
@@ -48,6 +57,7 @@ fn plan(arguments: &[String]) -> Option<Plan> {
                 plan.seeds = from.parse().ok()?..=to.parse().ok()?;
             }
             "--damages" => plan.damages = value.parse().ok()?,
+            "--reads" => plan.reads = value.parse().ok()?,
             _ => return None,
         }
     }
@@ -55,32 +65,78 @@ fn plan(arguments: &[String]) -> Option<Plan> {
 }
 
 fn run(plan: &Plan) -> bool {
-    let seeds = || plan.seeds.clone();
-    let a_seed = plan.damages.div_ceil(seeds().count());
-    let first = *plan.seeds.start();
     let mut all = All::default();
-    let verdicts = ["W", "not W"];
-    let answers = ["accepted", "refused"];
-    all.part("named cases", verdicts, seeds(), |seed| {
-        cases::run(&Archive, seed)
-    });
-    all.part("damages", verdicts, seeds(), |seed| {
-        damages::run(&Archive, seed, a_seed)
-    });
-    all.part("creations", answers, first..=first, |seed| {
-        creations::run(&Archive, seed)
-    });
-    all.part("len and clear", answers, seeds(), |seed| {
-        fresh::run(&Archive, seed, a_seed.div_ceil(FRESH_PART))
-    });
+    changes_and_tests(plan, &mut all);
+    reads(plan, &mut all);
     // What crashes has no time.
-    for pairs in TIMED.into_iter().filter(|_| all.differences == 0) {
-        let timed = times::run(pairs, first);
-        let (leaves, time) = (timed.leaves, timed.time.as_secs_f64() * 1e6);
-        println!("holds_index, {pairs} pairs in {leaves} leaves: {time:.1} µs{EMULATED}");
+    if all.differences == 0 {
+        print_times(*plan.seeds.start());
     }
     println!("{} calls, {} differences", all.calls, all.differences);
     all.differences == 0
+}
+
+fn changes_and_tests(plan: &Plan, all: &mut All) {
+    let seeds = || plan.seeds.clone();
+    let a_seed = plan.damages.div_ceil(seeds().count());
+    let first = *plan.seeds.start();
+    all.part("named cases", seeds(), |seed| cases::run(&Archive, seed));
+    all.part("damages", seeds(), |seed| {
+        damages::run(&Archive, seed, a_seed)
+    });
+    all.part("creations", first..=first, |seed| {
+        creations::run(&Archive, seed)
+    });
+    all.part("len and clear", seeds(), |seed| {
+        fresh::run(&Archive, seed, a_seed.div_ceil(FRESH_PART))
+    });
+}
+
+fn reads(plan: &Plan, all: &mut All) {
+    let seeds = || plan.seeds.clone();
+    let a_seed = plan.reads.div_ceil(seeds().count());
+    let first = *plan.seeds.start();
+    all.part("examples and traps", seeds(), |seed| {
+        reading::examples::run(&Archive, seed)
+    });
+    all.part("lookups", seeds(), |seed| {
+        reading::lookups::run(&Archive, seed, a_seed)
+    });
+    all.part("ranges", seeds(), |seed| {
+        reading::ranges::run(&Archive, seed, a_seed.div_ceil(RANGES_PART))
+    });
+    all.part("outputs", seeds(), |seed| {
+        reading::outputs::run(&Archive, seed, a_seed.div_ceil(OUTPUTS_PART))
+    });
+    all.part("walks", seeds(), |seed| {
+        reading::walks::run(&Archive, seed, a_seed.div_ceil(WALKS_PART))
+    });
+    all.part("leaf lists", seeds(), |seed| {
+        reading::leaf_lists::run(&Archive, seed, a_seed)
+    });
+    all.part("prefixes", seeds(), |seed| {
+        reading::prefixes::run(&Archive, seed, a_seed)
+    });
+    all.part("reads of named cases", first..=first, |seed| {
+        reading::damaged::run_cases(&Archive, seed)
+    });
+    all.part("reads of damages", seeds(), |seed| {
+        reading::damaged::run(&Archive, seed, a_seed)
+    });
+}
+
+fn print_times(seed: u64) {
+    for pairs in TIMED {
+        for timed in times::run(pairs, seed) {
+            let (call, leaves, time) = (timed.call, timed.leaves, micro(timed.time));
+            println!("{call}, {pairs} pairs in {leaves} leaves: {time} µs{EMULATED}");
+        }
+    }
+    println!("scan_prefix: {} µs{EMULATED}", micro(times::run_prefix()));
+}
+
+fn micro(time: Duration) -> String {
+    format!("{:.2}", time.as_secs_f64() * 1e6)
 }
 
 /// A time under the emulator says nothing of the machine that the code is for.
@@ -101,25 +157,20 @@ impl All {
     fn part(
         &mut self,
         name: &str,
-        words: [&str; 2],
         seeds: RangeInclusive<u64>,
         run: impl Fn(u64) -> Result<Tally, String>,
     ) {
         let mut sum = Tally::default();
         for seed in seeds {
             match run(seed) {
-                Ok(tally) => {
-                    sum.accepted += tally.accepted;
-                    sum.refused += tally.refused;
-                }
+                Ok(tally) => sum.join(&tally),
                 Err(report) => {
                     print!("{name}: {report}");
                     self.differences += 1;
                 }
             }
         }
-        let Tally { accepted, refused } = sum;
-        println!("{name}: {accepted} {}, {refused} {}", words[0], words[1]);
-        self.calls += accepted + refused;
+        println!("{name}: {sum}");
+        self.calls += sum.calls();
     }
 }

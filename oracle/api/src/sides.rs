@@ -7,10 +7,10 @@ use reference::layout::read;
 use reference::refusal::Refusal;
 use reference::w::holds_index;
 
-#[cfg(target_arch = "x86_64")]
-pub(crate) use crate::exports as archive;
 #[cfg(not(target_arch = "x86_64"))]
 pub(crate) use crate::far as archive;
+#[cfg(target_arch = "x86_64")]
+pub(crate) use crate::near as archive;
 
 #[derive(Clone, Copy, Debug)]
 pub enum Call {
@@ -25,6 +25,19 @@ pub enum Answer {
     Verdict(bool),
     Changed(Reply),
     Counted(Told),
+}
+
+impl Answer {
+    /// For the tally.
+    pub fn outcome(&self) -> &'static str {
+        match self {
+            Answer::Verdict(true) => "W",
+            Answer::Verdict(false) => "not W",
+            Answer::Changed(Reply { refusal: 0, .. })
+            | Answer::Counted(Told { refusal: 0, .. }) => "accepted",
+            Answer::Changed(_) | Answer::Counted(_) => "refused",
+        }
+    }
 }
 
 /// Answers a call, and leaves the buffers as the call leaves them.
@@ -99,7 +112,7 @@ fn counted(refusal: usize, length: usize) -> Answer {
     Answer::Counted(Told { refusal, length })
 }
 
-fn number(refusal: Refusal) -> usize {
+pub(crate) fn number(refusal: Refusal) -> usize {
     refusal.number() as usize
 }
 

@@ -1,8 +1,11 @@
-//! How long the test of W takes.
+//! How long the calls take.
 
-use crate::sides::archive::{holds_index, time_holds_index};
+use crate::exports::{INCLUDED, OPEN};
+use crate::reads::Read;
+use crate::session::WHOLE;
+use crate::sides::archive::{holds_index, time_holds_index, time_read};
 use reference::buffers::{Buffers, Header};
-use reference::layout::write;
+use reference::layout::{read, write};
 use reference::leaves::Leaves;
 use reference::random::Random;
 use std::time::Duration;
@@ -14,25 +17,65 @@ const KEY: usize = 24;
 const VALUE: usize = 8;
 
 pub struct Timed {
+    pub call: &'static str,
     pub pairs: usize,
     pub leaves: usize,
     /// Of one call, the best of some rounds.
     pub time: Duration,
 }
 
-pub fn run(pairs: usize, seed: u64) -> Timed {
-    const ROUNDS: u32 = 5;
+/// The calls that take an index, on one with so many pairs. The key that they
+/// ask for is held.
+pub fn run(pairs: usize, seed: u64) -> Vec<Timed> {
     let (header, lent) = index(pairs, &mut Random::new(seed));
     assert!(holds_index(header, &lent), "an index");
-    // Some ten milliseconds a round.
-    let once = time_holds_index(header, &lent, 1).max(Duration::from_nanos(1));
-    let times = (Duration::from_millis(10).div_duration_f64(once) as u32).max(1);
-    let rounds = (0..ROUNDS).map(|_| time_holds_index(header, &lent, times));
-    Timed {
+    let key = middle_key(&header, &lent);
+    let asked = [
+        Read::ContainsKey(&key),
+        Read::Get(&key),
+        Read::FirstInRange([INCLUDED, OPEN], &key, &[]),
+        Read::GetGt(&key),
+        Read::First,
+        Read::LeafAt(header.leaves / 2),
+    ];
+    let timed = |call, time| Timed {
+        call,
         pairs,
         leaves: header.leaves,
-        time: rounds.min().expect("a round") / times,
+        time,
+    };
+    let test_of_w = best(|times| time_holds_index(header, &lent, times));
+    let mut all = vec![timed("holds_index", test_of_w)];
+    for read in asked {
+        let mut out = [0; WHOLE];
+        let time = best(|times| time_read(read, header, &lent, &mut out, times));
+        all.push(timed(read.name(), time));
     }
+    all
+}
+
+/// Of `scan_prefix`, which takes no index, with a prefix of one key's length.
+pub fn run_prefix() -> Duration {
+    let header = Header {
+        fanout: 0,
+        leaves: 0,
+        pairs: 0,
+        charge: 0,
+    };
+    let (dir, slots, arena) = (Vec::new(), Vec::new(), Vec::new());
+    let no_index = Buffers { dir, slots, arena };
+    let read = Read::ScanPrefix(&[0x61; KEY]);
+    best(|times| time_read(read, header, &no_index, &mut [0; KEY], times))
+}
+
+/// From the time of so many calls that of one: the best of some rounds, each
+/// of some ten milliseconds.
+fn best(mut time: impl FnMut(u32) -> Duration) -> Duration {
+    const ROUNDS: u32 = 5;
+    let once = time(1).max(Duration::from_nanos(1));
+    let times = (Duration::from_millis(10).div_duration_f64(once) as u32).max(1);
+    let rounds = (0..ROUNDS).map(|_| time(times));
+    rounds.min().expect("a round") / times
 }
 
 /// Random keys, inserted one by one.
@@ -44,4 +87,10 @@ fn index(pairs: usize, random: &mut Random) -> (Header, Buffers) {
         leaves.insert(&bytes(KEY), &bytes(VALUE));
     }
     write(&leaves, POOL, ARENA, random)
+}
+
+fn middle_key(header: &Header, lent: &Buffers) -> Vec<u8> {
+    let leaves = read(header, &lent.dir, &lent.slots, &lent.arena).expect("an index");
+    let mut keys = leaves.list.iter().flat_map(|leaf| leaf.keys());
+    keys.nth(header.pairs / 2).expect("a key").clone()
 }

@@ -1,40 +1,112 @@
-//! A small run of each part: nothing differs, and both answers occur.
+//! A small run of each part: nothing differs, and every outcome occurs.
 
 use api::sides::Archive;
 use api::tally::Tally;
-use api::{cases, creations, damages, fresh, times};
+use api::{cases, creations, damages, fresh, reading, times};
 
-fn both(run: Result<Tally, String>, least: usize) {
+fn each(run: Result<Tally, String>, outcomes: &[&str], least: usize) {
     let tally = run.unwrap_or_else(|report| panic!("{report}"));
-    assert!(
-        tally.accepted >= least && tally.refused >= least,
-        "{tally:?}"
-    );
+    for outcome in outcomes {
+        assert!(tally.of(outcome) >= least, "{tally}");
+    }
+    let counted: usize = outcomes.iter().map(|outcome| tally.of(outcome)).sum();
+    assert_eq!(counted, tally.calls(), "{tally}");
 }
+
+const VERDICTS: [&str; 2] = ["W", "not W"];
+const ANSWERS: [&str; 2] = ["accepted", "refused"];
+const SCANS: [&str; 5] = ["found", "none", "refused 3", "refused 5", "refused 6"];
+const DAMAGED: [&str; 6] = [
+    "found",
+    "none",
+    "refused 2",
+    "refused 3",
+    "refused 5",
+    "refused 6",
+];
 
 #[test]
 fn named_cases() {
-    both(cases::run(&Archive, 1), 70);
+    each(cases::run(&Archive, 1), &VERDICTS, 70);
 }
 
 #[test]
 fn random_damages() {
-    both(damages::run(&Archive, 2, 2_000), 100);
+    each(damages::run(&Archive, 2, 2_000), &VERDICTS, 100);
 }
 
 #[test]
 fn every_limit() {
-    both(creations::run(&Archive, 3), 48);
+    each(creations::run(&Archive, 3), &ANSWERS, 48);
 }
 
 #[test]
 fn len_and_clear() {
-    both(fresh::run(&Archive, 4, 200), 50);
+    each(fresh::run(&Archive, 4, 200), &ANSWERS, 50);
 }
 
 #[test]
-fn a_time() {
-    let timed = times::run(40, 5);
-    assert_eq!((timed.pairs, timed.leaves), (40, 1));
-    assert!(!timed.time.is_zero());
+fn examples() {
+    each(reading::examples::run(&Archive, 5), &SCANS, 4);
+}
+
+#[test]
+fn lookups() {
+    let run = reading::lookups::run(&Archive, 6, 40);
+    each(run, &["found", "none", "refused 3"], 80);
+}
+
+#[test]
+fn ranges() {
+    each(reading::ranges::run(&Archive, 7, 20), &SCANS, 30);
+}
+
+#[test]
+fn outputs() {
+    let run = reading::outputs::run(&Archive, 8, 10);
+    each(run, &["found", "none", "refused 5"], 5);
+}
+
+#[test]
+fn walks() {
+    each(reading::walks::run(&Archive, 9, 10), &["found", "none"], 10);
+}
+
+#[test]
+fn leaf_lists() {
+    let run = reading::leaf_lists::run(&Archive, 10, 20);
+    each(run, &["found", "none"], 60);
+}
+
+#[test]
+fn prefixes() {
+    let run = reading::prefixes::run(&Archive, 11, 100);
+    each(run, &["found", "refused 3", "refused 5"], 4);
+}
+
+#[test]
+fn reads_of_damaged_buffers() {
+    each(reading::damaged::run_cases(&Archive, 12), &DAMAGED, 20);
+    each(reading::damaged::run(&Archive, 13, 200), &DAMAGED, 1);
+}
+
+#[test]
+fn times() {
+    let timed = times::run(40, 14);
+    let calls: Vec<&str> = timed.iter().map(|timed| timed.call).collect();
+    let all = [
+        "holds_index",
+        "contains_key",
+        "get",
+        "first_in_range",
+        "get_gt",
+        "first",
+        "leaf_at",
+    ];
+    assert_eq!(calls, all);
+    for timed in timed {
+        assert_eq!((timed.pairs, timed.leaves), (40, 1));
+        assert!(!timed.time.is_zero());
+    }
+    assert!(!times::run_prefix().is_zero());
 }

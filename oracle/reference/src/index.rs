@@ -64,6 +64,21 @@ impl Index {
         })
     }
 
+    /// An index with this leaf list, which meets W in buffers of these sizes. No
+    /// calls need lead to it.
+    pub fn holding(leaves: Leaves, pool: usize, arena_len: usize) -> Index {
+        let pairs = leaves.list.iter().flat_map(|leaf| leaf.pairs.clone());
+        let index = Index {
+            map: pairs.collect(),
+            leaves,
+            pool,
+            arena_len,
+            checks: true,
+        };
+        index.check_leaves();
+        index
+    }
+
     pub fn contains_key(&self, key: &[u8]) -> Result<bool, Refusal> {
         Ok(self.get(key)?.is_some())
     }

@@ -2,12 +2,13 @@
 //! refusals, and its script program, over plain sorted vectors.
 //!
 //! It is written from document 01 alone, to be held beside it. Leaves keep
-//! whole keys; how bytes lie in the arena has no part in the calls, so refusal
-//! 2 (damaged) cannot occur here.
+//! whole keys; how bytes lie in the arena has no part in the calls of `index`, so
+//! refusal 2 (damaged) cannot occur there.
 //!
 //! Beside the calls stand the packed words and W with the layout rule G: which
-//! headers and buffers hold an index, and which leaf list. `lists`, `damage`
-//! and `cases` make inputs for any program that has to tell.
+//! headers and buffers hold an index, and which leaf list. `opened` has the
+//! reading calls on such buffers, with the places of what they find. `lists`,
+//! `damage` and `cases` make inputs for any program that has to tell.
 
 #![forbid(unsafe_code)]
 
@@ -19,6 +20,7 @@ pub mod index;
 pub mod layout;
 pub mod leaves;
 pub mod lists;
+pub mod opened;
 pub mod random;
 pub mod range;
 pub mod refusal;
