@@ -1,0 +1,4 @@
+pub mod Bits
+pub mod BitLaws
+pub mod Free
+pub mod FreeLaws

@@ -1,0 +1,5 @@
+pub mod Regrow
+pub mod Examples
+pub mod RegrowLaws
+pub mod Merge
+pub mod MergeLaws

@@ -1,0 +1,4 @@
+pub mod Steps
+pub mod LeafSteps
+pub mod PackSteps
+pub mod RoomSteps

@@ -1,0 +1,9 @@
+pub mod Parts
+pub mod PartLaws
+pub mod Leaf
+pub mod LeafLaws
+pub mod Pack
+pub mod PackLaws
+pub mod Rooms
+pub mod RoomLaws
+pub mod RoomMet
