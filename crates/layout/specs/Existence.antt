@@ -4,7 +4,7 @@
 use Prim.Native.Nat.{_*_, _-_, _<_, _^_, _≤_, ℕ}
 use mathlib.Core.List.{[], _∷_, List, _++_, map}
 use mathlib.Core.Path.{refl, _≡_}
-use native.Mathlib.Nat.{mul-le-mul, suc-mul}
+use native.Mathlib.Nat.{mul-le-mul}
 use native.Mathlib.Omega.{arith}
 use lib.ListN.{drop, take, length, length-append, length-map, length-replicate, replicate}
 use lib.Seq.{take-append-seam, take-at}
@@ -18,10 +18,11 @@ use Rattle.layout.specs.declared.Header.{Header}
 use Rattle.lists.specs.All.{all-drop, all-take, all-append, All}
 use Rattle.lists.specs.Part.{part}
 use Rattle.model.specs.Charge.{charge}
-use Rattle.model.specs.Good.{Fits, Bounds, Tiled, Good, limits}
+use Rattle.model.specs.Good.{Fits, Tiled, Good, limits}
 use Rattle.model.specs.Leaves.{Node, pairsOf}
 use Rattle.model.specs.LimitLaws.{arena-limit-fits, fanout-limit-fits, pool-limit-fits}
 use Rattle.model.specs.Limits.{Sizes}
+use Rattle.model.specs.PairLaws.{pairs-most}
 use Rattle.model.specs.StoredLaws.{stored-charge}
 use Rattle.words.specs.Words.{wordOffset, wordSuffix, wordValue}
 
@@ -44,10 +45,6 @@ pub record Layout (fanout pool room : ℕ) (ns : List Node) : Type 0 where
 
 octets-part : (l : List ℕ) (a n : ℕ) → Octets l → Octets (part l a n)
 octets-part l a n h = all-take (λ x. x < 256) n (drop a l) (all-drop (λ x. x < 256) a l h)
-
-pairs-most : (B : Bounds) (ns : List Node) → Tiled B ns → length (pairsOf ns) ≤ length ns * B .fanout
-pairs-most B [] t = omega arith
-pairs-most B (n ∷ ns) t = rw (length-append, suc-mul) (omega (arith, pairs-most B ns (t .1), t .0 .1))
 
 -- the encoder's buffers, with zeros wherever nothing is written
 

@@ -9,7 +9,8 @@ use native.Mathlib.Omega.{arith}
 use lib.ListN.{drop, getD, length, take}
 use Rattle.layout.specs.Buffers.{lowAt, Buffers}
 use Rattle.layout.specs.Lays.{prefixesOf, LaysEach, LaysLeaf}
-use Rattle.model.specs.Leaves.{lowOf, prefixLength, Node}
+use Rattle.model.specs.Leaves.{lowOf, prefixLength, Node, withPairs}
+use Rattle.model.specs.Map.{Pair}
 use Rattle.order.specs.Bytes.{Bytes}
 
 abbrev pub lowsOf : List Node → List Bytes
@@ -100,6 +101,16 @@ prefixes-same (n ∷ ns) (m ∷ ms) e =
     let r : lowsOf ns ≡ lowsOf ms = cc in
     let l : n .low ≡ m .low = cc in
     cc (lows-first ns ms r, prefixes-same ns ms r)
+
+-- another list of pairs in one leaf
+module _ (x : Node) where
+  lows-kept : (ns : List Node) (j : ℕ) (m : List Pair) → j < length ns → lowsOf (take j ns ++ (withPairs (getD ns j x) m ∷ drop (suc j) ns)) ≡ lowsOf ns
+  lows-kept [] j m h = absurd (omega arith)
+  lows-kept (n ∷ ns) zero m h = refl
+  lows-kept (n ∷ ns) (suc j) m h = ap (λ (l : List Bytes). n .low ∷ l) (lows-kept ns j m (omega arith))
+
+  pub prefixes-kept : (ns : List Node) (j : ℕ) (m : List Pair) → j < length ns → prefixesOf (take j ns ++ (withPairs (getD ns j x) m ∷ drop (suc j) ns)) ≡ prefixesOf ns
+  prefixes-kept ns j m h = prefixes-same (take j ns ++ (withPairs (getD ns j x) m ∷ drop (suc j) ns)) ns (lows-kept ns j m h)
 
 -- of leaves with an upper key
 abbrev pub prefixesTo : List Node → Option Bytes → List ℕ

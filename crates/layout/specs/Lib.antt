@@ -25,3 +25,4 @@ pub mod Presumed
 pub mod Places
 pub mod PlacesLaws
 pub mod Pieces
+pub mod Steps

@@ -29,9 +29,11 @@ pub mod SizeLaws
 pub mod StoredLaws
 pub mod RoomLaws
 pub mod FitsLaws
+pub mod RuleEdits
 pub mod Sizing
 pub mod SizingRuns
 pub mod LimitLaws
 pub mod GoodLaws
 pub mod StoredRules
 pub mod StartLaws
+pub mod PassedLaws

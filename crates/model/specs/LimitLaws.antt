@@ -14,6 +14,11 @@ pub pool-one : {pool : ℕ} → poolLeast ≤ pool → 1 ≤ pool
 unfolding poolLeast
 pool-one h = h
 
+-- a local buffer of 512 bytes holds any key
+pub key-limit-small : keyLimit ≤ 512
+unfolding keyLimit
+key-limit-small = omega arith
+
 pub key-limit-fits : keyLimit < 2 ^ 12
 unfolding keyLimit
 key-limit-fits = omega arith

@@ -1,13 +1,14 @@
 -- Demand 2's map: the pairs of a tiled leaf list rise strictly, `insertRule` puts and `removeRule` removes in them, and what the owning leaf
 -- finds is what all leaves find.
 -- Assumes nothing.
-use Prim.Native.Nat.{ℕ}
+use Prim.Native.Nat.{_*_, _≤_, ℕ}
 use mathlib.Core.Bool.{and-false, false, Bool}
 use mathlib.Core.List.{List, [], _++_, _∷_, append-assoc, append-nil}
 use mathlib.Core.Option.{none, Option, some}
 use mathlib.Core.Path.{_∙_, _≡_, refl, sym}
+use native.Mathlib.Nat.{suc-mul}
 use native.Mathlib.Omega.{arith}
-use lib.ListN.{drop, take, take-append-drop}
+use lib.ListN.{drop, length, length-append, take, take-append-drop}
 use Rattle.lists.specs.All.{All, all-append, all-mono}
 use Rattle.model.specs.Good.{Bounds, GoodLeaf, Tiled, Tiles, Within}
 use Rattle.model.specs.LeafViews.{fails, holds, truth, full, merges, offsetOf, on, removal, settled, side, slack, stay, stays}
@@ -45,6 +46,10 @@ module _ (B : Bounds) where
   pub pairs-within : (ns : List Node) → Tiled B ns → All (Within B) (pairsOf ns)
   pairs-within [] t = tt
   pairs-within (n ∷ ns) t = all-append (Within B) (n .pairs) (pairsOf ns) (t .0 .0 .within) (pairs-within ns (t .1))
+
+  pub pairs-most : (ns : List Node) → Tiled B ns → length (pairsOf ns) ≤ length ns * B .fanout
+  pairs-most [] t = omega arith
+  pairs-most (n ∷ ns) t = rw (length-append, suc-mul) (omega (arith, pairs-most ns (t .1), t .0 .1))
 
   pub rising-pairs : (ns : List Node) → Tiled B ns → Rising (pairsOf ns)
   rising-pairs [] t = tt

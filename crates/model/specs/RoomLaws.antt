@@ -7,13 +7,14 @@ use mathlib.Core.List.{List, [], _++_, _∷_}
 use mathlib.Core.Option.{none, some}
 use mathlib.Core.Path.{_≡_, refl}
 use native.Mathlib.Omega.{arith}
+use borrow.Author.Tests.{le-ltb, ne-eqb}
 use lib.ListN.{length}
-use Rattle.model.specs.Answers.{sizeOf}
+use Rattle.model.specs.Answers.{noLeaf, noRoom, sizeOf}
 use Rattle.model.specs.Charge.{charge, stored}
 use Rattle.model.specs.Good.{Bounds, Tiled, Tiles}
 use Rattle.model.specs.LeafViews.{on, side, stay}
 use Rattle.model.specs.Leaves.{Node, owned}
-use Rattle.model.specs.Map.{lookup}
+use Rattle.model.specs.Map.{lookup, put}
 use Rattle.model.specs.MapParts.{length-put}
 use Rattle.model.specs.OwnerLaws.{tiles-first}
 use Rattle.model.specs.Rules.{insertRule, mergeFrom, removeRule}
@@ -58,6 +59,19 @@ replace-no-split F k v old (n ∷ ns) h e =
       | cuts l s q ↦ absurd (omega (arith, rw e at (length-put k v (owned k (n ∷ ns)))))
       | uncut l q ↦ q
     ]
+
+-- and never meets 7; one that is not longer never meets 8
+
+pub replace-not-seven : {B : Bounds} (pool : ℕ) (k v old : Bytes) (ns : List Node) → Tiles B ns → lookup k (owned k ns) ≡ some old → noLeaf (B .fanout) pool k v ns ≡ false
+replace-not-seven {B} pool k v old ns t e =
+    rw (ne-eqb (length (put k v (owned k ns))) (B .fanout) (λ q. omega (arith, q, rw e at (length-put k v (owned k ns)), owned-room k ns t)))
+
+pub replace-not-eight : {B : Bounds} (arena : ℕ) (k v old : Bytes) (ns : List Node) → Tiles B ns → lookup k (owned k ns) ≡ some old → length v ≤ length old → charge ns ≤ arena
+    → noRoom (B .fanout) arena k v ns ≡ false
+replace-not-eight arena k v old [] t e l c = absurd (let z : _≡_ {A = ℕ} 0 1 = cc (t .starts) in omega arith)
+replace-not-eight {B} arena k v old (n ∷ ns) t e l c =
+    let q = rw (e, replace-no-split (B .fanout) k v old (n ∷ ns) (owned-room k (n ∷ ns) t) e) at (insert-charge (B .fanout) k v n ns) in
+    le-ltb arena (charge (insertRule (B .fanout) k v (n ∷ ns))) (omega (arith, q, l, c))
 
 -- any empty leaf with a right neighbour: there is room for what the neighbour's pairs regain
 pub merge-room : (B : Bounds) (ahead : List Node) (n m : Node) (ns : List Node) → Tiled B (ahead ++ (n ∷ m ∷ ns)) → n .pairs ≡ []

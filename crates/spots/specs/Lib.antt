@@ -1,2 +1,4 @@
 pub mod Spots
 pub mod SpotLaws
+pub mod KeySpots
+pub mod SeekLaws

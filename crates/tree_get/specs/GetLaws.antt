@@ -3,33 +3,29 @@
 use Prim.Native.Nat.{_+_, _-_, _<_, _≤_, suc, zero, ℕ}
 use mathlib.Core.List.{List, [], _∷_}
 use mathlib.Core.Option.{Option, none, some}
-use mathlib.Core.Path.{_∙_, _≡_, ap, refl, sym}
+use mathlib.Core.Path.{_∙_, _≡_, ap, refl}
 use native.Mathlib.Omega.{arith}
 use borrow.Author.Tests.{le-ltb, lt-ltb}
-use lib.ListN.{drop, getD, length, take}
+use lib.ListN.{getD, length}
 use Rattle.layout.specs.Buffers.{lowWord}
 use Rattle.layout.specs.Pieces.{Pieces, pairIn}
 use Rattle.layout.specs.Places.{placeOf}
 use Rattle.layout.specs.Presumed.{Inner, Presumed}
 use Rattle.layout.specs.declared.Header.{Header}
-use Rattle.leaf.specs.Finds.{findTold, leafSlots, suffixesOf}
-use Rattle.leaf.specs.declared.Find.{Find}
-use Rattle.leaf.specs.declared.Find.the-variants.{At, Gap}
 use Rattle.leaf.specs.declared.Leaf.{Leaf}
 use Rattle.leaf.specs.declared.Upper.{Upper}
 use Rattle.leaf.specs.declared.Upper.the-variants as upper
 use Rattle.model.specs.Answers.{Answer, Gives, accepted, answerCode, getAnswer, leafAnswer, leafAt, refused, shown}
-use Rattle.model.specs.Leaves.{Node, node, owner}
+use Rattle.model.specs.Leaves.{Node, node}
 use Rattle.model.specs.Limits.{keyLimit}
-use Rattle.model.specs.Place.{Place, at, gap, place}
 use Rattle.model.specs.declared.Refusal.the-variants.{LongKey}
 use Rattle.order.specs.Bytes.{Bytes}
-use Rattle.route.specs.FindRouted.{find-routed}
-use Rattle.route.specs.Lookups.{at-in-list, at-key, at-value, gap-none}
-use Rattle.route.specs.RouteLaws.{leaf-lays, low-from, low-key-is, low-none, place-in, routed, upper-is}
+use Rattle.route.specs.Lookups.{at-key, at-value, gap-none}
+use Rattle.route.specs.RouteLaws.{leaf-lays, low-from, low-key-is, low-none, place-in, upper-is}
 use Rattle.route.specs.Routes.{LeafIs, UpperRead, lowPlace, upperOf}
 use Rattle.route.specs.Routes as routes
-use Rattle.spots.specs.Spots.{SpotIn}
+use Rattle.spots.specs.KeySpots.{AtSpot, InGap}
+use Rattle.spots.specs.declared.Spot.{Spot}
 use Rattle.tree_get.specs.Outcomes.{GetInner, Gets, LeafInner, ShownBy, Shows, foundCode, foundTold, shownCode}
 use Rattle.model.specs.Answers as model
 use Rattle.tree_get.specs.Outcomes as told
@@ -40,16 +36,6 @@ use Rattle.tree_get.specs.declared.Shown.the-variants.{End}
 use Rattle.tree_get.specs.declared.Shown.the-variants as views
 use Rattle.words.specs.Words.{LowKeyUnpacked}
 use Rattle.words.specs.declared.LowKey.{LowKey}
-
--- the search's answers, told apart
-
-pub found-place : (x : Place) (i : ℕ) → At i ≡ findTold x → x ≡ at i
-found-place (at j) i e = ap at (sym (cc e))
-found-place (gap j) i e = absurd (let z : _≡_ {A = ℕ} 0 1 = cc e in omega arith)
-
-pub gap-place : (x : Place) (i : ℕ) → Gap i ≡ findTold x → x ≡ gap i
-gap-place (at j) i e = absurd (let z : _≡_ {A = ℕ} 0 1 = cc e in omega arith)
-gap-place (gap j) i e = ap gap (sym (cc e))
 
 -- an answer told has its number
 
@@ -76,35 +62,16 @@ gives-shown {h} {dir} {slots} {arena} j r g = λ ns x. record { shown = g ns x; 
 pub get-long : {h : Header} {dir slots arena : List ℕ} {ns : List Node} → Presumed h dir slots arena ns → (k : Bytes) → keyLimit < length k → Gets h dir slots arena k (found.Refused LongKey) ns
 get-long x k l = rw (lt-ltb keyLimit (length k) l)
 
--- none, or a place
+-- none, or a place, by where the key stands
 
-module _ {h : Header} {dir slots arena : List ℕ} {ns : List Node} (x : Presumed h dir slots arena ns) (k : Bytes) {j : ℕ} (o : j ≡ owner k ns) where
-  pub get-none : (i : ℕ) → place k ((routes.leafAt ns j) .pairs) ≡ gap i → length k ≤ keyLimit → Gets h dir slots arena k found.Nothing ns
-  get-none i p short = rw (le-ltb keyLimit (length k) short, gap-none x k o i p)
+module _ {h : Header} {dir slots arena : List ℕ} {ns : List Node} (x : Presumed h dir slots arena ns) {k : Bytes} {t : Spot} where
+  pub get-none : InGap k ns t → length k ≤ keyLimit → Gets h dir slots arena k found.Nothing ns
+  get-none g short = rw (le-ltb keyLimit (length k) short, gap-none x k (g .owns) (t .slot) (g .stands))
 
-  pub get-found : {low prefix offset suffix value : ℕ} (i : ℕ) → place k ((routes.leafAt ns j) .pairs) ≡ at i → length k ≤ keyLimit
-      → Pieces h dir slots arena ns (pairIn ns j i) low prefix offset suffix value
+  pub get-found : {low prefix offset suffix value : ℕ} → AtSpot k ns t → length k ≤ keyLimit → Pieces h dir slots arena ns (pairIn ns (t .leaf) (t .slot)) low prefix offset suffix value
       → Gets h dir slots arena k (found.At (record { 0 = offset + suffix }) value) ns
-  get-found i p short q = rw (le-ltb keyLimit (length k) short, at-value x k o i p, q .place-is, at-key x k o i p, q .value-length)
-
--- from what the search in the owner's leaf answers
-
-module _ {h : Header} {dir slots arena : List ℕ} {ns : List Node} {j : ℕ} {leaf : Leaf} {f : Find} (x : Presumed h dir slots arena ns) (k : Bytes) (o : j ≡ owner k ns) (l : LeafIs h dir ns j leaf)
-    (e : f ≡ findTold (place (take (length k - leaf .«prefix_length») (drop (leaf .«prefix_length») k)) (suffixesOf arena (leafSlots slots leaf)))) where
-  pub sought-at : (i : ℕ) → f ≡ At i → place k ((routes.leafAt ns j) .pairs) ≡ at i
-  sought-at i g = found-place (place k ((routes.leafAt ns j) .pairs)) i (sym g ∙ find-routed x l k o e)
-
-  pub sought-none : (i : ℕ) → f ≡ Gap i → length k ≤ keyLimit → Gets h dir slots arena k found.Nothing ns
-  sought-none i g short = get-none x k o i (gap-place (place k ((routes.leafAt ns j) .pairs)) i (sym g ∙ find-routed x l k o e)) short
-
-  pub sought-spot : (i : ℕ) → f ≡ At i → SpotIn h dir slots arena (record { leaf = j; slot = i })
-  sought-spot i g =
-      let w = routed x k o .within in
-      record {
-        index = record { nodes = ns; presumed = x };
-        leaf-in = w;
-        slot-in = omega (arith, at-in-list x k o i (sought-at i g) .slot-in, leaf-lays x j w .count-is);
-      }
+  get-found a short q =
+      rw (le-ltb keyLimit (length k) short, at-value x k (a .owns) (t .slot) (a .stands), q .place-is, at-key x k (a .owns) (t .slot) (a .stands), q .value-length)
 
 -- one leaf of the leaf list
 

@@ -5,16 +5,14 @@ use crate::Found;
 use crate::Shown;
 use crate::View;
 use layout::Header;
-use leaf::Find;
 use leaf::Leaf;
-use leaf::search::find;
 use model::Refusal;
 use route::leaf_of;
 use route::low_key;
-use route::owner;
 use route::upper_key;
-use spots::Spot;
+use spots::Sought;
 use spots::read_spot;
+use spots::seek;
 use words::Offset;
 
 pub fn get(h: Header, dir: &[u32], slots: &[u64], arena: &[u8], key: &[u8]) -> Found
@@ -24,13 +22,10 @@ pub fn get(h: Header, dir: &[u32], slots: &[u64], arena: &[u8], key: &[u8]) -> F
     if Leaf::long_key(key.len()) {
         return Found::Refused(Refusal::LongKey);
     }
-    let j = owner(h, dir, slots, arena, key);
-    let leaf = leaf_of(h, dir, slots, arena, j);
-    let p = leaf.prefix_length;
-    let Find::At(i) = find(slots, arena, leaf, &key[p..]) else {
+    let Sought::At(t) = seek(h, dir, slots, arena, key) else {
         return Found::Nothing;
     };
-    let x = read_spot(h, dir, slots, arena, Spot { leaf: j, slot: i });
+    let x = read_spot(h, dir, slots, arena, t);
     let s = x.slot;
     Found::At(Offset(s.offset.0 + s.suffix), s.value)
 }
