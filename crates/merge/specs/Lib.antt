@@ -1,0 +1,5 @@
+pub mod Behind
+pub mod BehindLaws
+pub mod MergeLaws
+pub mod Merges
+pub mod NodeLaws

@@ -1,0 +1,5 @@
+pub mod PairEdits
+pub mod InsertLaws
+pub mod OldLaws
+pub mod RemoveLaws
+pub mod ReplaceLaws

@@ -1,0 +1,10 @@
+pub mod CutGood
+pub mod Splits
+pub mod PairLess
+pub mod CutNodes
+pub mod CutReady
+pub mod CutStoredLaws
+pub mod HalfLaws
+pub mod SeparatorLaws
+pub mod PairedLaws
+pub mod SplitLeafLaws
