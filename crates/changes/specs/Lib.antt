@@ -1,0 +1,4 @@
+pub mod Outcomes
+pub mod OldLaws
+pub mod MadeLaws
+pub mod Coincide
