@@ -1,18 +1,26 @@
--- How tight the exported contracts are: any two replies allowed for one input coincide, with every word and byte left behind. And 0 is
--- no refusal's number.
+-- How tight the exported contracts are: any two replies allowed for one input coincide, with every word and byte left behind (after an
+-- accepted insert or remove, but for what docs/EXCEPTIONS.md leaves open). And 0 is no refusal's number.
 -- Assumes nothing.
 use Prim.Native.Nat.{_<_, _≤_, suc, zero, ℕ}
 use mathlib.Core.List.{List}
+use mathlib.Core.Option.{none}
 use mathlib.Core.Path.{_∙_, _≡_, ap, refl, sym}
 use native.Mathlib.Omega.{arith}
-use Rattle.exports.specs.Replies.{ClearReply, ContainsReply, CreateReply, FirstReply, GetReply, GtReply, LeafReply, LenReply, PrefixReply, RangeReply, Tells, boundRead, boundTold, refusalTold, scanTold}
+use Rattle.changes.specs.Coincide as changes
+use Rattle.changes.specs.Outcomes.{Lent}
+use Rattle.changes.specs.declared.Changed.{Changed}
+use Rattle.exports.specs.Replies.{ClearReply, ContainsReply, CreateReply, FirstReply, GetReply, GtReply, InsertReply, LeafReply, LenReply, PrefixReply, RangeReply, RemoveReply, Tells, boundRead, boundTold, refusalTold, scanTold}
 use Rattle.exports.specs.declared.Reply.{Reply}
 use Rattle.exports.specs.declared.Told.{Told}
 use Rattle.exports.specs.declared.reads.Place.{Place}
 use Rattle.exports.specs.declared.reads.Shown.{Shown}
 use Rattle.exports.specs.declared.scans.Scanned.{Scanned}
 use Rattle.exports.specs.declared.scans.Span.{Span}
+use Rattle.exports.specs.declared.writes.OldReply.{OldReply}
+use Rattle.layout.specs.Lays.{W}
 use Rattle.layout.specs.declared.Header.{Header}
+use Rattle.model.specs.Leaves.{pairsOf}
+use Rattle.model.specs.Map.{lookup}
 use Rattle.model.specs.declared.Bound.{Bound}
 use Rattle.model.specs.declared.Bound.the-variants.{Excluded, Included, Open}
 use Rattle.model.specs.declared.Refusal.{Refusal}
@@ -21,9 +29,11 @@ use Rattle.order.specs.Bytes.{Bytes}
 use Rattle.prefixes.specs.Coincide as prefixes
 use Rattle.tree_create.specs.Coincide as below
 use Rattle.tree_get.specs.Coincide as reads
+use Rattle.tree_insert.specs.Coincide as inserts
 use Rattle.tree_range.specs.Coincide as scans
 use Rattle.tree_range.specs.Outcomes.{RangeOutcome}
 use Rattle.tree_range.specs.declared.Scan.{Scan}
+use Rattle.tree_remove.specs.Coincide as removes
 
 -- two answers that coincide are told alike
 told-alike : {A R : Type 0} {tell : A → R} {P Q : A → Type 0} {r q : R} → (a : Tells tell P r) (b : Tells tell Q q) → a .answer ≡ b .answer → r ≡ q
@@ -74,6 +84,26 @@ pub prefix-coincides : (prefix out : Bytes) {o₁ o₂ : Bytes} {r q : Span} →
 prefix-coincides prefix out a b =
     let s = prefixes.prefix-coincides prefix out (a .allowed) (b .allowed) in
     (told-alike a b (s .answers), s .outs)
+
+changed-path : (a b : Changed) → a .header ≡ b .header → a .old ≡ b .old → a ≡ b
+changed-path a b h o = λ i. record { header = h i; old = o i }
+
+-- what is left coincides as far as it does below: all but where a part lies in the arena, and what is out of use
+pub insert-coincides : (h : Header) (k v : Bytes) (before : Lent) {l m : Lent} {r q : OldReply} → (a : InsertReply h k v before l r) (b : InsertReply h k v before m q)
+    → (r ≡ q) × changes.Same (a .answer) l (b .answer) m
+insert-coincides h k v before a b =
+    let s = inserts.insert-coincides h k v before (a .allowed) (b .allowed) in
+    (told-alike a b (changed-path (a .answer) (b .answer) (s .headers) (s .answers)), s)
+
+module _ (h : Header) (k : Bytes) (before : Lent) {l m : Lent} {r q : OldReply} (a : RemoveReply h k before l r) (b : RemoveReply h k before m q) where
+  pub remove-coincides : (r ≡ q) × changes.Same (a .answer) l (b .answer) m
+  remove-coincides =
+      let s = removes.remove-coincides h k before (a .allowed) (b .allowed) in
+      (told-alike a b (changed-path (a .answer) (b .answer) (s .headers) (s .answers)), s)
+
+  -- where the key has no pair, every word and byte
+  pub absent-coincides : (w : W h (before .dir) (before .slots) (before .arena)) → lookup k (pairsOf (w .nodes)) ≡ none → l ≡ m
+  absent-coincides w e = removes.absent-coincides h k before (a .allowed) (b .allowed) w e
 
 -- each bound kind is read back from its number
 pub bound-read : (b : Bound) → boundRead (boundTold b) ≡ b

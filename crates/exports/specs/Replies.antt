@@ -3,6 +3,10 @@ use Prim.Native.Nat.{suc, zero, ℕ}
 use mathlib.Core.List.{List}
 use mathlib.Core.Option.{Option, none, some}
 use mathlib.Core.Path.{_≡_}
+use Rattle.changes.specs.Outcomes.{Lent}
+use Rattle.changes.specs.declared.Changed.{Changed}
+use Rattle.changes.specs.declared.Old.{Old}
+use Rattle.changes.specs.declared.Old.the-variants as old
 use Rattle.exports.specs.declared.Reply.{Reply}
 use Rattle.exports.specs.declared.Told.{Told}
 use Rattle.exports.specs.declared.reads.Place.{Place}
@@ -10,6 +14,8 @@ use Rattle.exports.specs.declared.reads.Shown.{Shown}
 use Rattle.exports.specs.declared.reads.UpperPart.{UpperPart}
 use Rattle.exports.specs.declared.scans.Scanned.{Scanned}
 use Rattle.exports.specs.declared.scans.Span.{Span}
+use Rattle.exports.specs.declared.writes.OldPart.{OldPart}
+use Rattle.exports.specs.declared.writes.OldReply.{OldReply}
 use Rattle.layout.specs.declared.Header.{Header}
 use Rattle.leaf.specs.declared.Upper.{Upper}
 use Rattle.leaf.specs.declared.Upper.the-variants as upper
@@ -35,9 +41,11 @@ use Rattle.tree_get.specs.declared.Found.the-variants as found
 use Rattle.tree_get.specs.declared.Shown as looked
 use Rattle.tree_get.specs.declared.Shown.the-variants.{End, Leaf, Unshown}
 use Rattle.tree_get.specs.declared.View.{View}
+use Rattle.tree_insert.specs.Outcomes.{InsertOutcome}
 use Rattle.tree_range.specs.Outcomes.{FirstOutcome, GtOutcome, RangeOutcome}
 use Rattle.tree_range.specs.declared.Scan.{Scan}
 use Rattle.tree_range.specs.declared.Scan.the-variants as scan
+use Rattle.tree_remove.specs.Outcomes.{RemoveOutcome}
 
 -- a refusal that returns nothing besides has length 0
 abbrev pub orZero : Option ℕ → ℕ
@@ -146,6 +154,21 @@ scanTold (scan.Pair x) = record { refusal = 0; length = 0; found = 1; key = x .k
 scanTold scan.End = noPair (record { refusal = 0; length = 0 })
 scanTold (scan.Refused x) = noPair (refusalTold x)
 
+-- the changing calls: found is 1 where there was an old value, and then the length is its length
+abbrev pub noOld : Told → OldPart
+noOld t = record { refusal = t .refusal; length = t .length; found = 0 }
+
+abbrev pub oldTold : Old → OldPart
+oldTold (old.Value n) = record { refusal = 0; length = n; found = 1 }
+oldTold old.Nothing = noOld (record { refusal = 0; length = 0 })
+oldTold (old.Refused x) = noOld (refusalTold x)
+
+abbrev pub withHeaderOld : OldPart → Header → OldReply
+withHeaderOld t h = record { refusal = t .refusal; length = t .length; found = t .found; header = h }
+
+abbrev pub changedTold : Changed → OldReply
+changedTold a = withHeaderOld (oldTold (a .old)) (a .header)
+
 -- r tells an answer that the entry point may give
 pub record Tells {A R : Type 0} (tell : A → R) (Allowed : A → Type 0) (r : R) : Type 0 where
   pub answer : A
@@ -181,3 +204,9 @@ GtReply h dir slots arena k out now-out r = Tells scanTold (GtOutcome h dir slot
 
 abbrev pub FirstReply : Header → (dir slots arena : List ℕ) → (out now-out : Bytes) → Scanned → Type 0
 FirstReply h dir slots arena out now-out r = Tells scanTold (FirstOutcome h dir slots arena out now-out) r
+
+abbrev pub InsertReply : Header → (key value : Bytes) → (before after : Lent) → OldReply → Type 0
+InsertReply h k v before after r = Tells changedTold (λ a. InsertOutcome h k v before a after) r
+
+abbrev pub RemoveReply : Header → (key : Bytes) → (before after : Lent) → OldReply → Type 0
+RemoveReply h k before after r = Tells changedTold (λ a. RemoveOutcome h k before a after) r

@@ -16,6 +16,7 @@ use tree_read::check::holds_index;
 
 pub mod reads;
 pub mod scans;
+pub mod writes;
 
 // A refusal's number and the length that it also returns, or 0 and the call's own number.
 #[repr(C)]

@@ -23,6 +23,11 @@ struct reply {
     struct header header;
 };
 
+struct old_reply {
+    size_t refusal, length, found;
+    struct header header;
+};
+
 struct place {
     size_t refusal, found, offset, length;
 };
@@ -48,6 +53,12 @@ struct reply olybzhan_clear_by_value(struct header h, uint32_t *dir, size_t dir_
 struct told olybzhan_len_by_value(struct header h, const uint32_t *dir, size_t dir_len, const uint64_t *slots, size_t slots_len,
                                   const uint8_t *arena, size_t arena_len);
 
+struct old_reply olybzhan_insert_by_value(struct header h, uint32_t *dir, size_t dir_len, uint64_t *slots, size_t slots_len, uint8_t *arena,
+                                          size_t arena_len, const uint8_t *key, size_t key_len, const uint8_t *value,
+                                          size_t value_len, uint8_t *old_out, size_t old_out_len);
+struct old_reply olybzhan_remove_by_value(struct header h, uint32_t *dir, size_t dir_len, uint64_t *slots, size_t slots_len, uint8_t *arena,
+                                          size_t arena_len, const uint8_t *key, size_t key_len, uint8_t *old_out,
+                                          size_t old_out_len);
 struct told olybzhan_contains_key_by_value(struct header h, const uint32_t *dir, size_t dir_len, const uint64_t *slots, size_t slots_len,
                                            const uint8_t *arena, size_t arena_len, const uint8_t *key, size_t key_len);
 struct place olybzhan_get_by_value(struct header h, const uint32_t *dir, size_t dir_len, const uint64_t *slots, size_t slots_len,
@@ -77,7 +88,7 @@ int ftruncate(int, long);
 int clock_gettime(int, struct timespec *);
 _Noreturn void _exit(int);
 
-enum { NO_ACCESS = 0, READ = 1, READ_WRITE = 3, SHARED = 1, PRIVATE = 2, FIXED = 16, ANONYMOUS = 32, MONOTONIC = 1 };
+enum { NO_ACCESS = 0, READ = 1, READ_WRITE = 3, SHARED = 1, PRIVATE = 2, FIXED = 16, ANONYMOUS = 32, CPU_TIME = 2 };
 
 enum { FENCE = 1 << 16, ROOM = 1 << 22 };
 
@@ -124,13 +135,18 @@ static void give(const void *from, size_t bytes) {
     }
 }
 
+// This program's own, so that others on the machine don't count.
 static uint64_t nanoseconds(void) {
     struct timespec now;
-    clock_gettime(MONOTONIC, &now);
+    clock_gettime(CPU_TIME, &now);
     return now.seconds * 1000000000ul + now.nanoseconds;
 }
 
-enum call { HOLDS_INDEX, CREATE, CLEAR, LEN, CONTAINS_KEY, GET, FIRST_IN_RANGE, GET_GT, FIRST, SCAN_PREFIX, LEAF_AT };
+// From INSERT on a call may change the arena too.
+enum call {
+    HOLDS_INDEX, CREATE, CLEAR, LEN, CONTAINS_KEY, GET, FIRST_IN_RANGE, GET_GT, FIRST, SCAN_PREFIX, LEAF_AT,
+    INSERT, REMOVE, TIME_INSERTS, TIME_REMOVES
+};
 
 enum { OPEN = 2 };
 
@@ -147,6 +163,7 @@ struct answer {
         size_t words[9];
         struct told told;
         struct reply reply;
+        struct old_reply old_reply;
         struct place place;
         struct scan scan;
         struct span span;
@@ -159,11 +176,43 @@ struct answer {
 struct lent {
     uint32_t *dir;
     uint64_t *slots;
+    uint8_t *written_arena;
     const uint32_t *read_dir;
     const uint64_t *read_slots;
     const uint8_t *arena, *key, *end;
     uint8_t *out;
 };
+
+static struct old_reply insert(struct header h, const struct request *q, const struct lent *l, const uint8_t *key, size_t key_len,
+                               const uint8_t *value, size_t value_len) {
+    return olybzhan_insert_by_value(h, l->dir, q->dir_len, l->slots, q->slots_len, l->written_arena, q->arena_len, key, key_len, value,
+                                    value_len, l->out, q->out_len);
+}
+
+static struct old_reply remove_key(struct header h, const struct request *q, const struct lent *l, const uint8_t *key, size_t key_len) {
+    return olybzhan_remove_by_value(h, l->dir, q->dir_len, l->slots, q->slots_len, l->written_arena, q->arena_len, key, key_len, l->out,
+                                    q->out_len);
+}
+
+// Makes changes one by one up to the first that is refused, the test of W timed by itself before each.
+static void time_changes(const struct request *q, const struct lent *l, struct answer *a) {
+    size_t key_len = q->numbers[0], value_len = q->numbers[1], calls = 0, tests = 0, count = 0;
+    struct header h = q->header;
+    for (; (count + 1) * key_len <= q->key_len; count++) {
+        uint64_t start = nanoseconds();
+        olybzhan_holds_index_by_value(h, l->read_dir, q->dir_len, l->read_slots, q->slots_len, l->arena, q->arena_len);
+        uint64_t tested = nanoseconds();
+        const uint8_t *key = l->key + count * key_len;
+        struct old_reply r = q->call == TIME_INSERTS ? insert(h, q, l, key, key_len, l->end + count * value_len, value_len)
+                                                     : remove_key(h, q, l, key, key_len);
+        calls += nanoseconds() - tested;
+        tests += tested - start;
+        if (r.refusal) break;
+        h = r.header;
+    }
+    size_t words[] = {count, h.fanout, h.leaves, h.pairs, h.charge, calls, tests};
+    for (size_t i = 0; i < sizeof words / sizeof *words; i++) a->words[i] = words[i];
+}
 
 static void call(const struct request *q, const struct lent *l, struct answer *a) {
     switch (q->call) {
@@ -208,6 +257,16 @@ static void call(const struct request *q, const struct lent *l, struct answer *a
         a->shown = olybzhan_leaf_at_by_value(q->header, l->read_dir, q->dir_len, l->read_slots, q->slots_len, l->arena, q->arena_len,
                                              q->numbers[0]);
         break;
+    case INSERT:
+        a->old_reply = insert(q->header, q, l, l->key, q->key_len, l->end, q->end_len);
+        break;
+    case REMOVE:
+        a->old_reply = remove_key(q->header, q, l, l->key, q->key_len);
+        break;
+    case TIME_INSERTS:
+    case TIME_REMOVES:
+        time_changes(q, l, a);
+        break;
     default:
         _exit(3);
     }
@@ -224,6 +283,7 @@ int main(void) {
         struct lent l = {
             .dir = (uint32_t *)(dirs.written + dir_at),
             .slots = (uint64_t *)(slot_rooms.written + slots_at),
+            .written_arena = arenas.written + arena_at,
             .read_dir = (const uint32_t *)(dirs.only_read + dir_at),
             .read_slots = (const uint64_t *)(slot_rooms.only_read + slots_at),
             .arena = arenas.only_read + arena_at,
@@ -242,10 +302,12 @@ int main(void) {
         a.nanoseconds = nanoseconds() - start;
         give(&a, sizeof a);
         give(l.out, q.out_len);
-        if (q.call == CREATE || q.call == CLEAR) {
+        _Bool changed = q.call >= INSERT;
+        if (q.call == CREATE || q.call == CLEAR || changed) {
             give(l.dir, dir_bytes);
             give(l.slots, slots_bytes);
         }
+        if (changed) give(l.written_arena, q.arena_len);
     }
     return 0;
 }

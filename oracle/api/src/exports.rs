@@ -31,6 +31,17 @@ pub struct Reply {
     pub header: Header,
 }
 
+/// Found 1: the old value's length; it is at the output's front. 0: there was
+/// none, and the length is what refusal 5 needs. The header is as it then is.
+#[repr(C)]
+#[derive(Clone, Copy, Debug, PartialEq, Eq)]
+pub struct OldReply {
+    pub refusal: usize,
+    pub length: usize,
+    pub found: usize,
+    pub header: Header,
+}
+
 /// Found 1: the value's place in the arena. 0: none.
 #[repr(C)]
 #[derive(Clone, Copy, Debug, Default, PartialEq, Eq)]
@@ -126,6 +137,36 @@ unsafe extern "C" {
         arena: *const u8,
         arena_len: usize,
     ) -> Told;
+
+    pub(crate) fn olybzhan_insert_by_value(
+        header: Header,
+        dir: *mut u32,
+        dir_len: usize,
+        slots: *mut u64,
+        slots_len: usize,
+        arena: *mut u8,
+        arena_len: usize,
+        key: *const u8,
+        key_len: usize,
+        value: *const u8,
+        value_len: usize,
+        old_out: *mut u8,
+        old_out_len: usize,
+    ) -> OldReply;
+
+    pub(crate) fn olybzhan_remove_by_value(
+        header: Header,
+        dir: *mut u32,
+        dir_len: usize,
+        slots: *mut u64,
+        slots_len: usize,
+        arena: *mut u8,
+        arena_len: usize,
+        key: *const u8,
+        key_len: usize,
+        old_out: *mut u8,
+        old_out_len: usize,
+    ) -> OldReply;
 
     /// The length is 1 where the key is held.
     pub(crate) fn olybzhan_contains_key_by_value(

@@ -1,10 +1,12 @@
 //! The same calls on a machine that the archive isn't for: `far/far.c` makes
 //! them under the toolchain's emulator.
 
-use crate::exports::{Place, Reply, Scan, Shown, Span, Told};
+use crate::exports::{OldReply, Place, Reply, Scan, Shown, Span, Told};
 use crate::reads::{Read, Reading};
+use crate::times::{Changes, KEY, Series, VALUE};
+use crate::writes::Write;
 use reference::buffers::{Buffers, Header};
-use std::io::{self, Read as _, Result, Write};
+use std::io::{self, Read as _, Result, Write as _};
 use std::process::{Child, ChildStdin, ChildStdout, Command, Stdio};
 use std::sync::Mutex;
 use std::time::Duration;
@@ -23,6 +25,10 @@ enum Call {
     First,
     ScanPrefix,
     LeafAt,
+    Insert,
+    Remove,
+    TimeInserts,
+    TimeRemoves,
 }
 
 struct Request<'a> {
@@ -30,9 +36,10 @@ struct Request<'a> {
     times: u32,
     header: Header,
     lent: &'a Buffers,
-    /// The kinds of two bounds, or a leaf's place.
+    /// The kinds of two bounds, a leaf's place, or the lengths of keys and of
+    /// values.
     numbers: [usize; 2],
-    /// A key, prefix or start, and an end.
+    /// A key, prefix or start, and an end or a value.
     keys: [&'a [u8]; 2],
 }
 
@@ -47,8 +54,8 @@ struct Far {
     answers: ChildStdout,
 }
 
-/// Started by the first call, and again after a crash.
-static FAR: Mutex<Option<Far>> = Mutex::new(None);
+/// Those that no call uses. One is started where there is none.
+static IDLE: Mutex<Vec<Far>> = Mutex::new(Vec::new());
 
 pub fn holds_index(header: Header, lent: &Buffers) -> bool {
     let answer = Request::of(Call::HoldsIndex, header, lent).answer(&mut []);
@@ -63,15 +70,49 @@ pub fn create(fanout: usize, lent: &mut Buffers) -> Reply {
         pairs,
         charge,
     };
-    change_by(Call::Create, header, lent)
+    reply(change_by(Call::Create, header, lent))
 }
 
 pub fn clear(header: Header, lent: &mut Buffers) -> Reply {
-    change_by(Call::Clear, header, lent)
+    reply(change_by(Call::Clear, header, lent))
 }
 
 pub fn len(header: Header, lent: &Buffers) -> Told {
     told(Request::of(Call::Len, header, lent).answer(&mut []).words)
+}
+
+pub fn write(write: Write, header: Header, lent: &mut Buffers, out: &mut [u8]) -> OldReply {
+    let (call, keys): (Call, [&[u8]; 2]) = match write {
+        Write::Insert(key, value) => (Call::Insert, [key, value]),
+        Write::Remove(key) => (Call::Remove, [key, &[]]),
+    };
+    old_reply(change(call, header, lent, [0; 2], keys, out))
+}
+
+pub fn time_changes(
+    changes: Changes,
+    header: Header,
+    lent: &mut Buffers,
+    out: &mut [u8],
+) -> Series {
+    let (call, keys): (Call, [&[u8]; 2]) = match changes {
+        Changes::Inserts(keys, values) => (Call::TimeInserts, [keys, values]),
+        Changes::Removes(keys) => (Call::TimeRemoves, [keys, &[]]),
+    };
+    let words = change(call, header, lent, [KEY, VALUE], keys, out);
+    let [count, fanout, leaves, pairs, charge, calls, tests, ..] = words;
+    let header = Header {
+        fanout,
+        leaves,
+        pairs,
+        charge,
+    };
+    Series {
+        count,
+        header,
+        calls: Duration::from_nanos(calls as u64),
+        tests: Duration::from_nanos(tests as u64),
+    }
 }
 
 pub fn read(read: Read, header: Header, lent: &Buffers, out: &mut [u8]) -> Reading {
@@ -101,13 +142,34 @@ pub fn time_read(
     Request { times, ..request }.answer(out).time
 }
 
-fn change_by(call: Call, header: Header, lent: &mut Buffers) -> Reply {
+fn change_by(call: Call, header: Header, lent: &mut Buffers) -> [usize; 9] {
+    change(call, header, lent, [0; 2], [&[]; 2], &mut [])
+}
+
+/// What was lent to be changed comes back behind the answer.
+fn change(
+    call: Call,
+    header: Header,
+    lent: &mut Buffers,
+    numbers: [usize; 2],
+    keys: [&[u8]; 2],
+    out: &mut [u8],
+) -> [usize; 9] {
     let (mut dir, mut slots) = (vec![0; 4 * lent.dir.len()], vec![0; 8 * lent.slots.len()]);
-    let request = Request::of(call, header, lent);
+    let mut arena = match call {
+        Call::Create | Call::Clear => Vec::new(),
+        _ => vec![0; lent.arena.len()],
+    };
+    let request = Request {
+        numbers,
+        keys,
+        ..Request::of(call, header, lent)
+    };
     let answer = with_far(call, |far| {
-        let answer = far.answer(&request, &mut [])?;
+        let answer = far.answer(&request, out)?;
         far.answers.read_exact(&mut dir)?;
         far.answers.read_exact(&mut slots)?;
+        far.answers.read_exact(&mut arena)?;
         Ok(answer)
     });
     for (word, bytes) in lent.dir.iter_mut().zip(dir.chunks_exact(4)) {
@@ -116,16 +178,17 @@ fn change_by(call: Call, header: Header, lent: &mut Buffers) -> Reply {
     for (word, bytes) in lent.slots.iter_mut().zip(slots.chunks_exact(8)) {
         *word = u64::from_le_bytes(bytes.try_into().expect("8 bytes"));
     }
-    reply(answer.words)
+    lent.arena[..arena.len()].copy_from_slice(&arena);
+    answer.words
 }
 
 /// Panics where the call crashes.
 fn with_far<T>(call: Call, work: impl FnOnce(&mut Far) -> Result<T>) -> T {
-    let mut far = FAR.lock().unwrap_or_else(|poisoned| poisoned.into_inner());
-    let mut running = far.take().unwrap_or_else(Far::start);
+    let idle = IDLE.lock().expect("no panic with the lock").pop();
+    let mut running = idle.unwrap_or_else(Far::start);
     match work(&mut running) {
         Ok(answer) => {
-            *far = Some(running);
+            IDLE.lock().expect("no panic with the lock").push(running);
             answer
         }
         Err(_) => {
@@ -252,6 +315,22 @@ fn reply([refusal, length, fanout, leaves, pairs, charge, ..]: [usize; 9]) -> Re
     Reply {
         refusal,
         length,
+        header,
+    }
+}
+
+fn old_reply(words: [usize; 9]) -> OldReply {
+    let [refusal, length, found, fanout, leaves, pairs, charge, ..] = words;
+    let header = Header {
+        fanout,
+        leaves,
+        pairs,
+        charge,
+    };
+    OldReply {
+        refusal,
+        length,
+        found,
         header,
     }
 }

@@ -11,7 +11,10 @@ pub mod exports;
 #[cfg(not(target_arch = "x86_64"))]
 mod far;
 pub mod fresh;
+pub mod history;
 mod near;
+mod outputs;
+mod parts;
 mod readers;
 pub mod reading;
 pub mod reads;
@@ -19,3 +22,6 @@ pub mod session;
 pub mod sides;
 pub mod tally;
 pub mod times;
+mod writers;
+pub mod writes;
+pub mod writing;

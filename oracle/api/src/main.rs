@@ -1,18 +1,20 @@
-//! `api [--seeds A-B] [--damages N] [--reads N]`: runs the archive's functions
-//! beside the reference. The last line counts what was compared; status 1 where
-//! something differs.
+//! `api [--seeds A-B] [--damages N] [--reads N] [--inserts N] [--mixed N]
+//! [--grown N]`: runs the archive's functions beside the reference. The last line
+//! counts what was compared; status 1 where something differs.
 
 #![forbid(unsafe_code)]
 
 use api::sides::Archive;
 use api::tally::Tally;
-use api::{cases, creations, damages, fresh, reading, times};
+use api::{cases, creations, damages, fresh, reading, times, writing};
 use std::env;
 use std::ops::RangeInclusive;
 use std::process::ExitCode;
+use std::thread;
 use std::time::Duration;
 
-const USAGE: &str = "api [--seeds A-B] [--damages N] [--reads N]";
+const USAGE: &str =
+    "api [--seeds A-B] [--damages N] [--reads N] [--inserts N] [--mixed N] [--grown N]";
 /// `len` and `clear` run on this part of the number of damages.
 const FRESH_PART: usize = 10;
 /// These run on such parts of the number of indexes read, for they ask more of
@@ -20,6 +22,12 @@ const FRESH_PART: usize = 10;
 const RANGES_PART: usize = 2;
 const OUTPUTS_PART: usize = 8;
 const WALKS_PART: usize = 4;
+/// Damaged buffers are changed, and inserts replayed, on such parts of the
+/// number of random inserts.
+const DAMAGED_PART: usize = 20;
+const REPLAYS_PART: usize = 500;
+/// A full arena is emptied and filled again so often, in each order.
+const REFILLS: usize = 100;
 const TIMED: [usize; 3] = [40, 2_000, 20_000];
 
 struct Plan {
@@ -28,6 +36,12 @@ struct Plan {
     damages: usize,
     /// Indexes read, over all seeds.
     reads: usize,
+    /// Random inserts, over all seeds.
+    inserts: usize,
+    /// Random calls of every kind, over all seeds.
+    mixed: usize,
+    /// Pairs of the index that timed inserts grow, and timed removes empty.
+    grown: usize,
 }
 
 fn main() -> ExitCode {
@@ -47,6 +61,9 @@ fn plan(arguments: &[String]) -> Option<Plan> {
         seeds: 1..=20,
         damages: 100_000,
         reads: 1_000,
+        inserts: 100_000,
+        mixed: 100_000,
+        grown: 2_000,
     };
     let mut words = arguments.iter();
     while let Some(word) = words.next() {
@@ -58,6 +75,9 @@ fn plan(arguments: &[String]) -> Option<Plan> {
             }
             "--damages" => plan.damages = value.parse().ok()?,
             "--reads" => plan.reads = value.parse().ok()?,
+            "--inserts" => plan.inserts = value.parse().ok()?,
+            "--mixed" => plan.mixed = value.parse().ok()?,
+            "--grown" => plan.grown = value.parse().ok()?,
             _ => return None,
         }
     }
@@ -68,9 +88,11 @@ fn run(plan: &Plan) -> bool {
     let mut all = All::default();
     changes_and_tests(plan, &mut all);
     reads(plan, &mut all);
+    writes(plan, &mut all);
     // What crashes has no time.
     if all.differences == 0 {
         print_times(*plan.seeds.start());
+        print_changes(plan.grown, *plan.seeds.start());
     }
     println!("{} calls, {} differences", all.calls, all.differences);
     all.differences == 0
@@ -125,6 +147,40 @@ fn reads(plan: &Plan, all: &mut All) {
     });
 }
 
+fn writes(plan: &Plan, all: &mut All) {
+    let seeds = || plan.seeds.clone();
+    let a_seed = plan.inserts.div_ceil(seeds().count());
+    let first = *plan.seeds.start();
+    all.part("changes of examples and traps", seeds(), |seed| {
+        writing::examples::run(&Archive, &Archive, seed)
+    });
+    all.part("inserts", seeds(), |seed| {
+        writing::runs::run(&Archive, &Archive, seed, a_seed)
+    });
+    all.part("splits at every place", first..=first, |seed| {
+        writing::splits::run(&Archive, &Archive, seed)
+    });
+    all.part("replays in full arenas", seeds(), |seed| {
+        writing::replays::run(&Archive, &Archive, seed, a_seed.div_ceil(REPLAYS_PART))
+    });
+    all.part("merges at every place", first..=first, |seed| {
+        writing::merges::run(&Archive, &Archive, seed)
+    });
+    all.part("refills of a full arena", first..=first, |seed| {
+        writing::refills::run(&Archive, &Archive, seed, REFILLS)
+    });
+    let mixed = plan.mixed.div_ceil(seeds().count());
+    all.part("mixed calls", seeds(), |seed| {
+        writing::mixed::run(&Archive, &Archive, &Archive, seed, mixed)
+    });
+    all.part("changes of named cases", first..=first, |seed| {
+        writing::damaged::run_cases(&Archive, seed)
+    });
+    all.part("changes of damages", seeds(), |seed| {
+        writing::damaged::run(&Archive, seed, a_seed.div_ceil(DAMAGED_PART))
+    });
+}
+
 fn print_times(seed: u64) {
     for pairs in TIMED {
         for timed in times::run(pairs, seed) {
@@ -133,6 +189,23 @@ fn print_times(seed: u64) {
         }
     }
     println!("scan_prefix: {} µs{EMULATED}", micro(times::run_prefix()));
+}
+
+/// A change begins with the test of W. Its time less that of the test by
+/// itself, on the same index right before, is the last number.
+fn print_changes(pairs: usize, seed: u64) {
+    for order in times::ORDERS {
+        let [grown, emptied] = times::run_changes(order, pairs, seed);
+        let leaves = grown.header.leaves;
+        for (calls, series) in [("inserts up to", grown), ("removes from", emptied)] {
+            let each = |all: Duration| micro(all / pairs as u32);
+            let (whole, test) = (each(series.calls), each(series.tests));
+            let besides = each(series.calls.saturating_sub(series.tests));
+            println!(
+                "{pairs} {order} {calls} {leaves} leaves: each {whole} µs, test of W {test} µs, besides {besides} µs{EMULATED}"
+            );
+        }
+    }
 }
 
 fn micro(time: Duration) -> String {
@@ -146,6 +219,20 @@ const EMULATED: &str = if cfg!(target_arch = "x86_64") {
     " under the emulator"
 };
 
+/// What each seed gives, the seeds shared out among the cores.
+fn on_all_cores<T: Send>(seeds: Vec<u64>, run: &(impl Fn(u64) -> T + Sync)) -> Vec<T> {
+    let cores = thread::available_parallelism().map_or(1, usize::from);
+    thread::scope(|scope| {
+        let shares = seeds.chunks(seeds.len().div_ceil(cores));
+        let work = |share: &[u64]| share.iter().map(|seed| run(*seed)).collect::<Vec<T>>();
+        let threads: Vec<_> = shares
+            .map(|share| scope.spawn(move || work(share)))
+            .collect();
+        let given = threads.into_iter().map(|thread| thread.join());
+        given.flat_map(|given| given.expect("no panic")).collect()
+    })
+}
+
 #[derive(Default)]
 struct All {
     calls: usize,
@@ -158,11 +245,11 @@ impl All {
         &mut self,
         name: &str,
         seeds: RangeInclusive<u64>,
-        run: impl Fn(u64) -> Result<Tally, String>,
+        run: impl Fn(u64) -> Result<Tally, String> + Sync,
     ) {
         let mut sum = Tally::default();
-        for seed in seeds {
-            match run(seed) {
+        for result in on_all_cores(seeds.collect(), &run) {
+            match result {
                 Ok(tally) => sum.join(&tally),
                 Err(report) => {
                     print!("{name}: {report}");

@@ -6,6 +6,8 @@
 
 use crate::exports::*;
 use crate::reads::{Read, Reading};
+use crate::times::{Changes, Series};
+use crate::writes::Write;
 use reference::buffers::{Buffers, Header};
 use std::hint::black_box;
 use std::time::{Duration, Instant};
@@ -70,6 +72,44 @@ pub fn len(header: Header, lent: &Buffers) -> Told {
             arena.as_ptr(),
             arena.len(),
         )
+    }
+}
+
+pub fn write(write: Write, header: Header, lent: &mut Buffers, out: &mut [u8]) -> OldReply {
+    let Buffers { dir, slots, arena } = lent;
+    match write {
+        Write::Insert(key, value) => unsafe {
+            olybzhan_insert_by_value(
+                header,
+                dir.as_mut_ptr(),
+                dir.len(),
+                slots.as_mut_ptr(),
+                slots.len(),
+                arena.as_mut_ptr(),
+                arena.len(),
+                key.as_ptr(),
+                key.len(),
+                value.as_ptr(),
+                value.len(),
+                out.as_mut_ptr(),
+                out.len(),
+            )
+        },
+        Write::Remove(key) => unsafe {
+            olybzhan_remove_by_value(
+                header,
+                dir.as_mut_ptr(),
+                dir.len(),
+                slots.as_mut_ptr(),
+                slots.len(),
+                arena.as_mut_ptr(),
+                arena.len(),
+                key.as_ptr(),
+                key.len(),
+                out.as_mut_ptr(),
+                out.len(),
+            )
+        },
     }
 }
 
@@ -175,4 +215,35 @@ pub fn time_read(
         black_box(read(black_box(asked), header, lent, out));
     }
     start.elapsed()
+}
+
+/// Makes changes one by one up to the first that is refused, the test of W
+/// timed by itself before each.
+pub fn time_changes(
+    changes: Changes,
+    mut header: Header,
+    lent: &mut Buffers,
+    out: &mut [u8],
+) -> Series {
+    let (mut tests, mut calls) = (Duration::ZERO, Duration::ZERO);
+    let mut count = 0;
+    while count < changes.count() {
+        let start = Instant::now();
+        black_box(holds_index(header, lent));
+        let tested = Instant::now();
+        let reply = write(changes.at(count), header, lent, out);
+        calls += tested.elapsed();
+        tests += tested - start;
+        if reply.refusal != 0 {
+            break;
+        }
+        header = reply.header;
+        count += 1;
+    }
+    Series {
+        count,
+        header,
+        calls,
+        tests,
+    }
 }

@@ -58,7 +58,7 @@ fn kind(bound: Bound) -> usize {
 }
 
 /// Only refusal 5 returns a length.
-fn needed(refusal: Refusal) -> usize {
+pub(crate) fn needed(refusal: Refusal) -> usize {
     match refusal {
         Refusal::ShortOutput(needed) => needed,
         _ => 0,

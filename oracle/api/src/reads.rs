@@ -74,7 +74,7 @@ fn kind(number: usize) -> String {
     }
 }
 
-fn short(key: &[u8]) -> String {
+pub(crate) fn short(key: &[u8]) -> String {
     const SHOWN: usize = 32;
     match key.len() {
         0..=SHOWN => hex(key),

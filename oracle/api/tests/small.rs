@@ -2,7 +2,7 @@
 
 use api::sides::Archive;
 use api::tally::Tally;
-use api::{cases, creations, damages, fresh, reading, times};
+use api::{cases, creations, damages, fresh, reading, times, writing};
 
 fn each(run: Result<Tally, String>, outcomes: &[&str], least: usize) {
     let tally = run.unwrap_or_else(|report| panic!("{report}"));
@@ -88,6 +88,85 @@ fn prefixes() {
 fn reads_of_damaged_buffers() {
     each(reading::damaged::run_cases(&Archive, 12), &DAMAGED, 20);
     each(reading::damaged::run(&Archive, 13, 200), &DAMAGED, 1);
+}
+
+const INSERTS: [&str; 10] = [
+    "new",
+    "split",
+    "old",
+    "refused 3",
+    "refused 4",
+    "refused 5",
+    "refused 7",
+    "refused 8",
+    // Of what is read back.
+    "found",
+    "none",
+];
+const REMOVES: [&str; 3] = ["gone", "merge", "absent"];
+
+#[test]
+fn examples_of_changes() {
+    let run = writing::examples::run(&Archive, &Archive, 15);
+    each(run, &[&INSERTS[..], &REMOVES].concat(), 5);
+}
+
+#[test]
+fn inserts() {
+    let run = writing::runs::run(&Archive, &Archive, 16, 3_000);
+    each(run, &INSERTS, 5);
+}
+
+#[test]
+fn merges() {
+    let run = writing::merges::run(&Archive, &Archive, 22);
+    let outcomes = [&REMOVES[..], &["new", "found", "none"]].concat();
+    each(run, &outcomes, 1_000);
+}
+
+#[test]
+fn refills() {
+    let run = writing::refills::run(&Archive, &Archive, 23, 4);
+    let outcomes = ["gone", "merge", "new", "old", "split", "refused 8"];
+    each(run, &[&outcomes[..], &["found", "none"]].concat(), 6);
+}
+
+#[test]
+fn mixed_calls() {
+    let run = writing::mixed::run(&Archive, &Archive, &Archive, 24, 10_000);
+    let others = ["W", "accepted", "refused 6"];
+    each(run, &[&INSERTS[..], &REMOVES, &others].concat(), 5);
+}
+
+#[test]
+fn inserts_at_every_place() {
+    let run = writing::splits::run(&Archive, &Archive, 17);
+    let outcomes = ["split", "refused 7", "refused 8", "found", "none"];
+    each(run, &outcomes, 500);
+    let run = writing::replays::run(&Archive, &Archive, 18, 4);
+    let outcomes = ["new", "split", "refused 8", "found", "none"];
+    each(run, &outcomes, 20);
+}
+
+#[test]
+fn changes_of_damaged_buffers() {
+    let outcomes = [&INSERTS[..8], &REMOVES, &["refused 2"]].concat();
+    each(writing::damaged::run_cases(&Archive, 19), &outcomes, 1);
+    let run = writing::damaged::run(&Archive, 20, 200);
+    let tally = run.unwrap_or_else(|report| panic!("{report}"));
+    assert!(tally.of("refused 2") > 1_800, "{tally}");
+}
+
+#[test]
+fn times_of_changes() {
+    for order in times::ORDERS {
+        let [grown, emptied] = times::run_changes(order, 200, 21);
+        assert_eq!((grown.count, grown.header.pairs), (200, 200));
+        assert_eq!((emptied.count, emptied.header.pairs), (200, 0));
+        for series in [grown, emptied] {
+            assert!(!series.calls.is_zero() && !series.tests.is_zero());
+        }
+    }
 }
 
 #[test]

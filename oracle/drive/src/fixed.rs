@@ -27,6 +27,14 @@ const GIVE_BACK: &str = "new 3 4 64; put 6160 -; put 616161 01; put 6163 -; put 
     new 3 4 9; put 6161 -; put 6162 -; put 62 -; put - -; put 61 -; leaves; del -; leaves; \
     next -; next 61; next 6161; next 6162";
 
+/// A merge whose pairs regain one of two prefix bytes; one where they regain none; one
+/// where they regain all.
+const PREFIXES: &str = "new 3 8 64; put 10 -; put 610161 01; put 610261 02; put 610262 03; \
+    put 70 04; leaves; del 610161; leaves; get 610261; next 6101; next 610261; \
+    new 3 8 64; put 10 -; put 616101 01; put 616102 02; put 616103 03; put 616104 04; put 70 -; \
+    leaves; del 616102; leaves; get 616103; next 616101; del 10; leaves; get 616101; next -; \
+    del 616101; del 616103; leaves";
+
 const SEPARATOR_STAYS: &str = "new 3 4 64; put 7878787878787830 -; put 7878787878787831 -; \
     put 7878787878787832 -; put 61 -; leaves; del 7878787878787831; del 7878787878787832; leaves; \
     del 7878787878787830; leaves; put 7878787878787831 -; leaves";
@@ -48,19 +56,39 @@ pub fn scripts() -> Vec<(&'static str, String)> {
         ("insert-refusals", refused_news() + &long_keys("get")),
         ("insert-bad-lines", bad_lines(|line| !line.contains("del"))),
         ("insert-long-lines", long_lines()),
+        ("insert-separators", separators()),
         ("insert-split-places", split_places()),
+        ("insert-split-places-64", split_places_64()),
         ("mixed-a5", lines(&format!("new 3 4 64; {PUTS}; {A5}"))),
         ("mixed-give-back", lines(GIVE_BACK)),
+        ("mixed-prefixes", lines(PREFIXES)),
         ("mixed-separator-stays", lines(SEPARATOR_STAYS)),
         ("mixed-full", lines(FULL)),
         ("mixed-long-keys", long_keys("del")),
         ("mixed-bad-lines", bad_lines(|line| line.contains("del"))),
         ("mixed-merge-places", merge_places()),
+        ("mixed-fill-and-empty", fill_and_empty()),
     ]
 }
 
 fn lines(text: &str) -> String {
     text.replace("; ", "\n") + "\n"
+}
+
+/// A1: each two keys, parted in an index of fanout 3 by a third one above.
+/// Then a fourth, which splits the last leaf (A2).
+fn separators() -> String {
+    let four = [
+        "6162 6163 6164 6165",
+        "61 6100 62 63",
+        "61ffff 62 63 64",
+        "- 6162 63 64",
+    ];
+    four.map(|keys| {
+        let puts = keys.replace(' ', " -; leaves; put ");
+        lines(&format!("new 3 4 64; put {puts} -; leaves"))
+    })
+    .concat()
 }
 
 /// A6: the third put decides.
@@ -107,31 +135,54 @@ fn long_lines() -> String {
 /// A new key at each place of a leaf of F - 1 pairs: the only leaf, the last,
 /// the first of several, one in the middle.
 fn split_places() -> String {
+    let fanouts = [3, 4, 5, 8];
+    fanouts.map(|fanout| splits(fanout, |_, _| true)).concat()
+}
+
+/// The same at fanout 64: the ends, and around L4's offset for each leaf.
+fn split_places_64() -> String {
+    let offsets = [1, 62, 1, 32];
+    splits(64, |leaf, place| {
+        place == 0 || place == 63 || place.abs_diff(offsets[leaf]) < 2
+    })
+}
+
+fn splits(fanout: usize, wanted: impl Fn(usize, usize) -> bool) -> String {
+    // Two bytes a key, and all first bytes below 256.
+    let (step, arena) = if fanout > 14 { (3, 512) } else { (16, 256) };
+    let name = |first: usize, second: usize| format!("{:02x}{second:02x}", first * step);
+    let keys = |from: usize, to: usize| (from..=to).map(|n| name(n, 0x80));
+    let more = |first: usize| (1..fanout - 1).map(move |n| name(first, 0x80 + n));
+    // Each with the number of its leaf's first key.
+    let puts_and_leaf: [(Vec<String>, usize, Vec<String>); 4] = [
+        (
+            keys(1, fanout - 1).collect(),
+            1,
+            keys(1, fanout - 1).collect(),
+        ),
+        (keys(1, fanout).collect(), 2, keys(2, fanout).collect()),
+        (
+            keys(1, fanout).chain(more(1)).collect(),
+            1,
+            keys(1, 1).chain(more(1)).collect(),
+        ),
+        (
+            keys(1, fanout + 1).chain(more(2).take(1)).collect(),
+            2,
+            keys(2, 2)
+                .chain(more(2).take(1))
+                .chain(keys(3, fanout - 1))
+                .collect(),
+        ),
+    ];
     let mut script = String::new();
-    for fanout in [3, 4, 5, 8] {
-        let keys = |from: usize, to: usize| (from..=to).map(|n| format!("{n}080"));
-        let more = |first: usize| (1..fanout - 1).map(move |n| format!("{first}08{n}"));
-        let puts_and_leaf: [(Vec<String>, Vec<String>); 4] = [
-            (keys(1, fanout - 1).collect(), keys(1, fanout - 1).collect()),
-            (keys(1, fanout).collect(), keys(2, fanout).collect()),
-            (
-                keys(1, fanout).chain(more(1)).collect(),
-                keys(1, 1).chain(more(1)).collect(),
-            ),
-            (
-                keys(1, fanout + 1).chain(more(2).take(1)).collect(),
-                keys(2, 2)
-                    .chain(more(2).take(1))
-                    .chain(keys(3, fanout - 1))
-                    .collect(),
-            ),
-        ];
-        for (puts, leaf) in puts_and_leaf {
-            let puts: String = puts.iter().map(|key| format!("put {key} -\n")).collect();
-            let below = leaf[0].replace("080", "040");
-            let above = leaf.iter().map(|key| format!("{key}80"));
-            for key in std::iter::once(below).chain(above) {
-                script += &format!("new {fanout} 8 256\n{puts}leaves\nput {key} -\nleaves\n");
+    for (at, (puts, first, leaf)) in puts_and_leaf.into_iter().enumerate() {
+        let puts: String = puts.iter().map(|key| format!("put {key} -\n")).collect();
+        let below = name(first, 0x40);
+        let above = leaf.iter().map(|key| format!("{key}80"));
+        for (place, key) in std::iter::once(below).chain(above).enumerate() {
+            if wanted(at, place) {
+                script += &format!("new {fanout} 8 {arena}\n{puts}leaves\nput {key} -\nleaves\n");
             }
         }
     }
@@ -148,6 +199,25 @@ fn merge_places() -> String {
         script += &format!("new 3 8 256\n{puts}leaves\n");
         for key in keys[from..].iter().chain(&keys[..from]) {
             script += &format!("del {key}\nleaves\n");
+        }
+    }
+    script
+}
+
+/// Filled and emptied twice, up and down, in an arena of twice the keys' bytes.
+fn fill_and_empty() -> String {
+    let mut script = String::new();
+    for (fanout, count) in [(3, 16), (5, 24), (64, 66)] {
+        let key = |n: usize| format!("6161{:02x}", 3 * n);
+        script += &format!("new {fanout} 64 {}\n", 6 * count);
+        for turn in 0..2 {
+            let scattered = (0..count).map(|n| (n * 7 + turn) % count);
+            script.extend(scattered.map(|n| format!("put {} -\n", key(n))));
+            script += "leaves\n";
+            let down = turn == 1;
+            let order = (0..count).map(|n| if down { count - 1 - n } else { n });
+            script.extend(order.map(|n| format!("del {}\n", key(n))));
+            script += "leaves\n";
         }
     }
     script

@@ -2,7 +2,7 @@
 
 use crate::fixed;
 use crate::lines::{all_accepted, leaf_counts, lines};
-use crate::scripts::{of_fanout, whole_language};
+use crate::scripts::{of_fanout, tight_inserts, whole_language};
 use reference::script;
 use std::cmp::Ordering::{self, Greater, Less};
 use std::fs;
@@ -24,6 +24,9 @@ pub fn run(oracle: &Path) -> Result<bool, String> {
         }
     }
     write(&folder, &samples).map_err(|error| format!("{}: {error}", folder.display()))?;
+    let program = oracle.join("../crates/script");
+    let replay = replay(&samples);
+    write_replay(&program, &replay).map_err(|error| format!("{}: {error}", program.display()))?;
     println!("{} scripts recorded", samples.len());
     Ok(true)
 }
@@ -46,8 +49,34 @@ fn write(folder: &Path, samples: &[(String, Vec<u8>)]) -> io::Result<()> {
     Ok(())
 }
 
+fn write_replay(program: &Path, script: &[u8]) -> io::Result<()> {
+    fs::write(program.join("stdin"), script)?;
+    fs::write(program.join("stdout"), script::run(script))
+}
+
+/// The scripts one behind the other, document 01's run first, with `leaves`
+/// behind every put and del. The last line has no newline.
+pub fn replay(samples: &[(String, Vec<u8>)]) -> Vec<u8> {
+    let mut replay: Vec<&[u8]> = Vec::new();
+    let mut samples: Vec<_> = samples.iter().collect();
+    samples.sort_by_key(|sample| sample.0 != "insert-run");
+    for (_, script) in samples {
+        let script = lines(script);
+        for (at, line) in script.iter().enumerate() {
+            let line = line.strip_suffix(b"\n").unwrap_or(line);
+            replay.push(line);
+            let shown = script.get(at + 1).is_some_and(|next| *next == b"leaves\n");
+            let changes = line.starts_with(b"put ") || line.starts_with(b"del ");
+            if changes && !shown {
+                replay.push(b"leaves");
+            }
+        }
+    }
+    replay.join(&b'\n')
+}
+
 /// Names and scripts.
-fn samples() -> Vec<(String, Vec<u8>)> {
+pub fn samples() -> Vec<(String, Vec<u8>)> {
     let fixed = fixed::scripts().into_iter();
     let mut samples: Vec<_> = fixed
         .map(|(name, script)| (name.to_string(), script.into_bytes()))
@@ -60,16 +89,24 @@ fn samples() -> Vec<(String, Vec<u8>)> {
         let mixed = |seed| of_fanout(seed, fanout, true);
         let seed = first_small(1, size, mixed, |answers| steps(answers, Greater) > 1);
         samples.push((format!("mixed-fanout-{fanout}-seed-{seed}"), mixed(seed)));
+        let tight = |seed| tight_inserts(seed, fanout);
+        let seed = first_small(1, 4 * size, tight, |answers| {
+            steps(answers, Less) > 3 && (refused(answers, 7) || refused(answers, 8))
+        });
+        samples.push((format!("insert-tight-{fanout}-seed-{seed}"), tight(seed)));
     }
     let mut seed = 0;
     for _ in 0..WHOLE {
         seed = first_small(seed + 1, 15_000, whole_language, |answers| {
-            let refused = |number: &[u8]| lines(answers).contains(&number);
-            refused(b"refused 7\n") && refused(b"refused 8\n")
+            refused(answers, 7) && refused(answers, 8)
         });
         samples.push((format!("mixed-whole-seed-{seed}"), whole_language(seed)));
     }
     samples
+}
+
+fn refused(answers: &[u8], number: usize) -> bool {
+    lines(answers).contains(&format!("refused {number}\n").as_bytes())
 }
 
 /// How often one leaf list shown has fewer leaves than the next (after

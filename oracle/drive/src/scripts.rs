@@ -33,6 +33,18 @@ pub fn of_fanout(seed: u64, fanout: usize, removes: bool) -> Vec<u8> {
     joined(&accepted_lines(&mut Random::new(seed), fanout, removes))
 }
 
+/// Without removes, of one fanout, in a tight pool or arena.
+pub fn tight_inserts(seed: u64, fanout: usize) -> Vec<u8> {
+    let mut random = Random::new(seed);
+    let mut part = Part::new(&mut random, fanout, Kept::All);
+    part.fill(false);
+    let (pool, arena) = part.tight_limits();
+    let mut lines = part.with_limits(pool, arena);
+    // The longest line may be one.
+    lines.retain(|line| !line.starts_with(b"del "));
+    joined(&lines)
+}
+
 fn accepted_lines(random: &mut Random, fanout: usize, removes: bool) -> Vec<Vec<u8>> {
     let mut part = Part::new(random, fanout, Kept::Accepted);
     part.fill(removes);

@@ -2,6 +2,7 @@
 
 use drive::fixed;
 use drive::lines::{all_accepted, leaf_counts};
+use drive::record::{replay, samples};
 use std::fs;
 use std::path::Path;
 
@@ -39,6 +40,19 @@ fn places() {
     let splits = counts("insert-split-places");
     assert_eq!(splits.len(), 2 * 4 * (3 + 4 + 5 + 8));
     assert!(splits.chunks(2).all(|two| two[1] == two[0] + 1));
+    let splits = counts("insert-split-places-64");
+    assert_eq!(splits.len(), 2 * (4 + 4 + 4 + 5));
+    assert!(splits.chunks(2).all(|two| two[1] == two[0] + 1));
     let merges = counts("mixed-merge-places");
     assert!(merges.chunks(7).all(|rows| rows[0] == 5 && rows[6] <= 2));
+}
+
+/// What the script program is run on, and what it must write.
+#[test]
+fn replayed() {
+    let program = Path::new(env!("CARGO_MANIFEST_DIR")).join("../../crates/script");
+    let script = replay(&samples());
+    assert!(fs::read(program.join("stdin")).unwrap() == script);
+    assert!(fs::read(program.join("stdout")).unwrap() == reference::script::run(&script));
+    assert!(script.windows(5).any(|part| part == b"\ndel "));
 }
