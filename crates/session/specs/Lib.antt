@@ -1,0 +1,10 @@
+pub mod Turns
+pub mod Session
+pub mod Takes
+pub mod TakeLaws
+pub mod Serving
+pub mod BoundLaws
+pub mod ServeLaws
+pub mod FrontLaws
+pub mod NewLaws
+pub mod LineLaws
