@@ -5,7 +5,7 @@ use Prim.Native.Nat.{ℕ}
 use mathlib.Core.Bool.{Bool, cond, false, true}
 use mathlib.Core.List.{List, [], _∷_}
 use mathlib.Core.Option.{Option, none, some}
-use mathlib.Core.Path.{_≡_, refl, sym}
+use mathlib.Core.Path.{_≡_, ap, refl, sym}
 use native.Mathlib.Omega.{arith}
 use borrow.Author.Tests.{eq-eqb, ne-eqb}
 use lib.Dec.{eqb}
@@ -56,9 +56,13 @@ pub settled : (F free : ℕ) (n : Node) (u : Option Bytes) → Settled F free n 
 unfolding splitIfFull newLow
 settled F free n u =
     elim (leveled (length (n .pairs)) F) [
-      | even e ↦ full e (rw (eq-eqb (length (n .pairs)) F e)) (rw (eq-eqb (length (n .pairs)) F e))
-      | apart e ↦ slack e (rw (ne-eqb (length (n .pairs)) F e)) (rw (ne-eqb (length (n .pairs)) F e))
+      | even e ↦ full e (split-by true (eq-eqb (length (n .pairs)) F e)) (rw (eq-eqb (length (n .pairs)) F e))
+      | apart e ↦ slack e (split-by false (ne-eqb (length (n .pairs)) F e)) (rw (ne-eqb (length (n .pairs)) F e))
     ]
+  where
+    -- by whether the leaf, the new pair in it, has F pairs
+    split-by : (b : Bool) → eqb (length (n .pairs)) F ≡ b → splitIfFull F free n u ≡ cond b (halves free (offsetOf n u) n) (n ∷ [])
+    split-by b e = ap (λ (c : Bool). cond c (halves free (offsetOf n u) n) (n ∷ [])) e
 
 -- k is the key of a leaf's only pair, or it is not
 pub data Lasting (k : Bytes) (m : List Pair) : Type 0 where
