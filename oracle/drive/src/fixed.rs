@@ -57,6 +57,7 @@ pub fn scripts() -> Vec<(&'static str, String)> {
         ("insert-bad-lines", bad_lines(|line| !line.contains("del"))),
         ("insert-long-lines", long_lines()),
         ("insert-separators", separators()),
+        ("insert-wide-answers", wide_answers()),
         ("insert-split-places", split_places()),
         ("insert-split-places-64", split_places_64()),
         ("mixed-a5", lines(&format!("new 3 4 64; {PUTS}; {A5}"))),
@@ -202,6 +203,14 @@ fn merge_places() -> String {
         }
     }
     script
+}
+
+/// Long low keys: `leaves` behind each put writes more than the program's output
+/// buffer holds, within one piece of its input.
+fn wide_answers() -> String {
+    let key = |n: usize| format!("{}{n:02x}", "78".repeat(110));
+    let puts = (0..40).map(|n| format!("put {} -\n", key(n)));
+    format!("new 3 64 16384\n{}leaves\n", puts.collect::<String>())
 }
 
 /// Filled and emptied twice, up and down, in an arena of twice the keys' bytes.

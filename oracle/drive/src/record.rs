@@ -54,10 +54,13 @@ fn write_replay(program: &Path, script: &[u8]) -> io::Result<()> {
     fs::write(program.join("stdout"), script::run(script))
 }
 
-/// The scripts one behind the other, document 01's run first, with `leaves`
-/// behind every put and del. The last line has no newline.
+/// Every command before there is an index, and behind a refused `new`.
+const UNOPENED: &[u8] = b"leaves\nput 61 01\nget 61\ndel 61\nnext 61\nnew 2 4 64\nleaves";
+
+/// These first, then the scripts one behind the other, document 01's run in
+/// front, with `leaves` behind every put and del. The last line has no newline.
 pub fn replay(samples: &[(String, Vec<u8>)]) -> Vec<u8> {
-    let mut replay: Vec<&[u8]> = Vec::new();
+    let mut replay: Vec<&[u8]> = vec![UNOPENED];
     let mut samples: Vec<_> = samples.iter().collect();
     samples.sort_by_key(|sample| sample.0 != "insert-run");
     for (_, script) in samples {
