@@ -18,7 +18,7 @@ const INPUT_LENGTH: usize = 65536;
 // The room for an answer, twice.
 const OUTPUT_LENGTH: usize = 266240;
 
-// What goes on from one piece of input to the next: the session, how many bytes of a line are held, and whether there may be more input.
+// What goes on from one piece of input to the next: which index there is, how many bytes of a line are held, and whether there may be more input.
 struct Carried {
     session: Session,
     held: usize,

@@ -79,7 +79,7 @@ module _ {f p a : ℕ} {ns : List Node} {s : Session} {dir slots arena : List �
         good = x .good;
       }
 
-  -- at the session's own numbers
+  -- at the index's own sizes
   pub own-stand : Stands f p a ns (s .header) (take (s .pool) dir) (take (s .header .fanout * s .pool) slots) (take (s .arena) arena)
   own-stand =
       let words : f * p ≡ s .header .fanout * s .pool = ap (λ (n : ℕ). n * p) (sym (x .fanout-is)) ∙ ap (λ (n : ℕ). s .header .fanout * n) (sym (x .pool-is)) in
