@@ -65,6 +65,7 @@ pub freshened : {fanout : ℕ} {dir slots now-dir now-slots : List ℕ} {h : Hea
     → MadeFresh fanout dir slots now-dir now-slots h → Freshened fanout dir slots arena now-dir now-slots fresh (record { header = h; answer = Done })
 freshened arena s m = record {
   answer-is = refl;
+  code-is = refl;
   fresh = m;
   holds = rw (m .header-is) (blank-holds (blank-made arena s m));
 }
@@ -77,7 +78,7 @@ module _ (fanout : ℕ) (dir slots arena : List ℕ) where
   create-refused n =
       elim (truth (meetsSizes fanout (length dir) (length slots) (length arena))) [
         | holds e ↦ absurd (n (meets-sizes fanout (length dir) (length slots) (length arena) .sound e))
-        | fails e ↦ rw e (record { answer-is = refl; number-is = refl; header-is = refl; dir-is = refl; slots-are = refl })
+        | fails e ↦ rw e (record { answer-is = refl; code-is = refl; header-is = refl; dir-is = refl; slots-are = refl })
       ]
 
   pub create-done : {now-dir now-slots : List ℕ} {h : Header} → Sizes fanout (length dir) (length slots) (length arena)
@@ -89,7 +90,7 @@ module _ (fanout : ℕ) (dir slots arena : List ℕ) where
 module _ (h : Header) (dir slots arena : List ℕ) where
   pub clear-refused : (W h dir slots arena → ⊥) → ClearOutcome h dir slots arena dir slots (record { header = h; answer = Refused Damaged })
   clear-refused n = record {
-    damaged = λ m. record { answer-is = refl; number-is = refl; header-is = refl; dir-is = refl; slots-are = refl };
+    damaged = λ m. record { answer-is = refl; code-is = refl; header-is = refl; dir-is = refl; slots-are = refl };
     held = λ w. absurd (n w);
   }
 

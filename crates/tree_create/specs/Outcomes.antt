@@ -8,7 +8,7 @@ use Rattle.layout.specs.Examples.{header}
 use Rattle.layout.specs.Lays.{Holds}
 use Rattle.layout.specs.declared.Header.{Header}
 use Rattle.lists.specs.Part.{put}
-use Rattle.model.specs.Answers.{Answer, Code, Gives, accepted, answerCode, clearAnswer, codeOf, createAnswer, lenAnswer, noRefusal, numberOf, refused}
+use Rattle.model.specs.Answers.{Answer, Code, Gives, accepted, answerCode, clearAnswer, codeOf, createAnswer, lenAnswer, noRefusal, refused}
 use Rattle.model.specs.Leaves.{Node}
 use Rattle.model.specs.declared.Refusal.{Refusal}
 use Rattle.model.specs.declared.Refusal.the-variants.{Damaged}
@@ -25,15 +25,15 @@ pub record MadeFresh (fanout : ℕ) (dir slots now-dir now-slots : List ℕ) (h 
   pub dir-is : now-dir ≡ put dir 0 (directoryWord 0 0 ∷ [])
   pub slots-are : now-slots ≡ put slots (lowKeySlot fanout 0) (lowKeyWord 0 0 ∷ [])
 
--- document 01's number of an answer: 0 where it is accepted
-abbrev pub numberIn : Change → ℕ
-numberIn Done = 0
-numberIn (Refused x) = numberOf x
+-- document 01's number and length of an answer
+abbrev pub changeCode : Change → Code
+changeCode Done = noRefusal
+changeCode (Refused x) = codeOf x
 
 -- refused: the header as said, every lent word as it was
 pub record Untouched (x : Refusal) (h : Header) (dir slots now-dir now-slots : List ℕ) (r : Answered) : Type 0 where
   pub answer-is : r .answer ≡ Refused x
-  pub number-is : numberIn (r .answer) ≡ numberOf x
+  pub code-is : changeCode (r .answer) ≡ codeOf x
   pub header-is : r .header ≡ h
   pub dir-is : now-dir ≡ dir
   pub slots-are : now-slots ≡ slots
@@ -41,6 +41,7 @@ pub record Untouched (x : Refusal) (h : Header) (dir slots now-dir now-slots : L
 -- accepted: fresh buffers, and they hold the leaf list
 pub record Freshened (fanout : ℕ) (dir slots arena now-dir now-slots : List ℕ) (ns : List Node) (r : Answered) : Type 0 where
   pub answer-is : r .answer ≡ Done
+  pub code-is : changeCode (r .answer) ≡ noRefusal
   pub fresh : MadeFresh fanout dir slots now-dir now-slots (r .header)
   pub holds : Holds (r .header) now-dir now-slots arena ns
 

@@ -26,7 +26,7 @@ use Rattle.order.specs.Bytes.{Bytes}
 use Rattle.tree_remove.specs.Outcomes.{RemoveBy, RemoveOutcome}
 
 -- what an accepted remove leaves
-removed-nodes : (k : Bytes) (out : ℕ) (ns : List Node) (c : model.Changed) → removeAnswer true k out ns ≡ accepted c → removeRule true k ns ≡ c .nodes
+pub removed-nodes : (k : Bytes) (out : ℕ) (ns : List Node) (c : model.Changed) → removeAnswer true k out ns ≡ accepted c → removeRule true k ns ≡ c .nodes
 removed-nodes k out ns c e =
     let p = passed-if (longKey k) LongKey _ e in
     let q = passed-if (short out (lookup k (pairsOf ns))) (ShortOutput (sizeOf (lookup k (pairsOf ns)))) _ (p .1) in

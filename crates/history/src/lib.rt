@@ -1,0 +1,1 @@
+// No code: histories of the entry points, and the theorems over them, in specs/.
