@@ -9,13 +9,14 @@ use native.Mathlib.Omega.{arith}
 use Rattle.changes.specs.Coincide as changes
 use Rattle.changes.specs.Outcomes.{Lent}
 use Rattle.changes.specs.declared.Changed.{Changed}
-use Rattle.exports.specs.Replies.{ClearReply, ContainsReply, CreateReply, FirstReply, GetReply, GtReply, InsertReply, LeafReply, LenReply, PrefixReply, RangeReply, RemoveReply, Tells, boundRead, boundTold, refusalTold, scanTold}
+use Rattle.exports.specs.Replies.{ClearReply, ContainsReply, CreateReply, FirstReply, GetReply, GtReply, InsertReply, LeafReply, LenReply, PrefixReply, RangeReply, RemoveReply, Tells, boundRead, boundTold, refusalTold, scanTold, withHeader, withHeaderOld}
 use Rattle.exports.specs.declared.Reply.{Reply}
 use Rattle.exports.specs.declared.Told.{Told}
 use Rattle.exports.specs.declared.reads.Place.{Place}
 use Rattle.exports.specs.declared.reads.Shown.{Shown}
 use Rattle.exports.specs.declared.scans.Scanned.{Scanned}
 use Rattle.exports.specs.declared.scans.Span.{Span}
+use Rattle.exports.specs.declared.writes.OldPart.{OldPart}
 use Rattle.exports.specs.declared.writes.OldReply.{OldReply}
 use Rattle.layout.specs.Lays.{W}
 use Rattle.layout.specs.declared.Header.{Header}
@@ -104,6 +105,14 @@ module _ (h : Header) (k : Bytes) (before : Lent) {l m : Lent} {r q : OldReply} 
   -- where the key has no pair, every word and byte
   pub absent-coincides : (w : W h (before .dir) (before .slots) (before .arena)) → lookup k (pairsOf (w .nodes)) ≡ none → l ≡ m
   absent-coincides w e = removes.absent-coincides h k before (a .allowed) (b .allowed) w e
+
+-- where the header is lent: replies that coincide with the header put in coincide, and so do the headers
+
+pub told-apart : (r q : Told) (g f : Header) → withHeader r g ≡ withHeader q f → (r ≡ q) × (g ≡ f)
+told-apart r q g f e = ((λ i. record { refusal = e i .refusal; length = e i .length }), (λ i. e i .header))
+
+pub old-apart : (r q : OldPart) (g f : Header) → withHeaderOld r g ≡ withHeaderOld q f → (r ≡ q) × (g ≡ f)
+old-apart r q g f e = ((λ i. record { refusal = e i .refusal; length = e i .length; found = e i .found }), (λ i. e i .header))
 
 -- each bound kind is read back from its number
 pub bound-read : (b : Bound) → boundRead (boundTold b) ≡ b

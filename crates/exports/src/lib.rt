@@ -1,5 +1,5 @@
 // The calls for Rust and C: numbers, slices and structs of numbers. A slice is two arguments, its pointer and its length. The header
-// comes and goes by value, which the end of a name says.
+// comes and goes by value where the end of a name says so; the changing calls of module `in_place` take it lent, as a pointer.
 ghost use mathlib.Core.Path.{_≡_};
 ghost use Rattle.lists.specs.Exact.{Exact};
 ghost use Rattle.layout.specs.Lays.{W};
@@ -14,6 +14,7 @@ use tree_create::create;
 use tree_create::len;
 use tree_read::check::holds_index;
 
+pub mod in_place;
 pub mod reads;
 pub mod scans;
 pub mod writes;

@@ -20,13 +20,14 @@ pub struct OldReply {
 }
 
 // The same without the header.
-struct OldPart {
-    refusal: usize,
-    length: usize,
-    found: usize,
+#[repr(C)]
+pub struct OldPart {
+    pub refusal: usize,
+    pub length: usize,
+    pub found: usize,
 }
 
-fn tell_old(a: Old) -> OldPart
+pub fn tell_old(a: Old) -> OldPart
     ensures { λ r. ⌜ r ≡ oldTold a ⌝ }
 {
     match a {

@@ -1,0 +1,2 @@
+pub mod TellChange
+pub mod TellOld
