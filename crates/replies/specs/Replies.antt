@@ -6,14 +6,15 @@ use lib.ListN.{length}
 use Rattle.answers.specs.Answers.{Wrote}
 use Rattle.layout.specs.Lays.{Holds, W}
 use Rattle.layout.specs.declared.Header.{Header}
+use Rattle.lists.specs.Part.{put}
 use Rattle.model.specs.Answers.{Answer, accepted, createAnswer, getAnswer, getGtAnswer, refused}
 use Rattle.model.specs.Leaves.{Node}
-use Rattle.model.specs.Limits.{keyLimit}
 use Rattle.order.specs.Bytes.{Bytes}
-use Rattle.replies.specs.Texts.{getText, leavesText, newText, nextText}
+use Rattle.replies.specs.Texts.{getText, newText, nextText}
 use Rattle.replies.specs.declared.Opened.{Opened}
 use Rattle.replies.specs.declared.Opened.the-variants.{Kept, Made}
 use Rattle.tree_create.specs.Outcomes.{MadeFresh}
+use Rattle.tree_range.specs.Outcomes.{keyTold}
 
 -- a reply that reads: there is an index, and the output has room for the text
 pub record ReadAsked (h : Header) (dir slots arena : List ℕ) (text : List Node → Bytes) (out : Bytes) (at : ℕ) : Type 0 where
@@ -26,17 +27,13 @@ ReadReply h dir slots arena text out at now-out r = (w : W h dir slots arena) �
 abbrev pub getSaid : Bytes → List Node → Bytes
 getSaid k ns = getText (getAnswer k ns)
 
--- with a buffer of so many bytes for the found key
+-- with a buffer of so many bytes for the found key, which is at its front then
 abbrev pub nextSaid : Bytes → (found : ℕ) → List Node → Bytes
 nextSaid k found ns = nextText (getGtAnswer k found ns)
 
-pub record NextAsked (h : Header) (dir slots arena : List ℕ) (k found out : Bytes) (at : ℕ) : Type 0 where
-  pub read : ReadAsked h dir slots arena (nextSaid k (length found)) out at
-  pub holds-keys : keyLimit ≤ length found
-
 pub record NextReply (h : Header) (dir slots arena : List ℕ) (k found out : Bytes) (at : ℕ) (now-found now-out : Bytes) (r : ℕ) : Type 0 where
   pub said : ReadReply h dir slots arena (nextSaid k (length found)) out at now-out r
-  pub same-found : length now-found ≡ length found
+  pub found-is : (w : W h dir slots arena) → now-found ≡ put found 0 (keyTold (getGtAnswer k (length found) (w .nodes)))
 
 -- `new`: a fresh index, or the buffers as they were
 

@@ -134,6 +134,9 @@ module _ {h : Header} {dir slots arena : List ℕ} (k : Bytes) {found now-found 
       (subst (λ (b : Bytes). ScanText b a v (scanTold (placeOf h dir slots arena (w .nodes)) a)) (sym (s .out-is))
       (scan-text (placeOf h dir slots arena (w .nodes)) found (rangeFound beyond k [] (w .nodes))))
 
+  pub next-found : (w : W h dir slots arena) → now-found ≡ put found 0 (keyTold (getGtAnswer k (length found) (w .nodes)))
+  next-found w = g .held w .out-is
+
   pub next-inside : {x : Seen} → f ≡ scan.Pair x → W h dir slots arena → x .key ≤ length now-found
   next-inside e w = next-text e w .inside
 

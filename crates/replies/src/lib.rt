@@ -5,7 +5,7 @@ ghost use lib.ListN.{length};
 ghost use Rattle.answers.specs.Answers.{Wrote};
 ghost use Rattle.model.specs.Answers.{createAnswer, numberOf};
 ghost use Rattle.replies.specs.Leaves.{ViewAsked, lineSaid, viewed};
-ghost use Rattle.replies.specs.Replies.{NewReply, NextAsked, NextReply, ReadAsked, ReadReply, getSaid, newSaid};
+ghost use Rattle.replies.specs.Replies.{NewReply, NextReply, ReadAsked, ReadReply, getSaid, newSaid, nextSaid};
 ghost use Rattle.replies.specs.Texts.{leafText, leavesText, refusalText};
 use answers::write_end;
 use answers::write_last_leaf;
@@ -112,7 +112,7 @@ pub fn reply_next(
     out: &mut [u8],
     at: usize,
 ) -> usize
-    requires { ⌜ NextAsked h (now dir) (now slots) (now arena) (now key) (now found) (now out) at ⌝ }
+    requires { ⌜ ReadAsked h (now dir) (now slots) (now arena) (nextSaid (now key) (length (now found))) (now out) at ⌝ }
     ensures { λ r. ⌜ NextReply h (now (dir .entry)) (now (slots .entry)) (now (arena .entry)) (now (key .entry)) (now (found .entry)) (now (out .entry)) at (now (found .exit)) (now (out .exit)) r ⌝ }
 {
     match get_gt(h, dir, slots, arena, key, found) {

@@ -9,7 +9,7 @@ use mathlib.Core.List.{List, _++_}
 use mathlib.Core.Option.{Option}
 use mathlib.Core.Path.{_≡_, refl, sym, ap, subst, _∙_}
 use lib.Dec.{ltb}
-use lib.ListN.{drop, length, take}
+use lib.ListN.{drop, length, take, take-append-drop}
 use lib.Seq.{length-take-le, take-at}
 use Rattle.layout.specs.Lays.{Holds}
 use Rattle.layout.specs.declared.Header.{Header}
@@ -17,8 +17,8 @@ use Rattle.lines.specs.Grammar.{Command}
 use Rattle.lines.specs.declared.Line.{Line}
 use Rattle.model.specs.Leaves.{Node}
 use Rattle.session.specs.Serving.{Ample, LineAsked, OpenAsked, RepliedBy, ServedBy, Standing, Stands, StandsIn, hasIndex}
-use Rattle.session.specs.Session.{Carries, Fronts}
-use Rattle.session.specs.Turns.{State, above, arenaCeiling, fanoutCeiling, lineTurn, poolCeiling}
+use Rattle.session.specs.Session.{Carries, Fronts, noIndex}
+use Rattle.session.specs.Turns.{Idle, State, above, arenaCeiling, fanoutCeiling, lineTurn, poolCeiling}
 use Rattle.session.specs.Turns.State.{closed, opened}
 use Rattle.session.specs.declared.Served.{Served}
 use Rattle.session.specs.declared.Session.{Session}
@@ -136,12 +136,19 @@ back-carries (opened f′ p′ a′ ns) h dir slots arena now-dir now-slots now-
 pub closed-open : {A : Type 0} (s : Session) → s .open ≡ false → s .open ≡ true → A
 closed-open s e f = absurd (let z : _≡_ {A = ℕ} 0 1 = cc (e, f) in omega (arith, z))
 
+none-open : {A : Type 0} {s : Session} → s ≡ noIndex → s .open ≡ true → A
+none-open {s = s} e f = closed-open s (ap (λ (i : Session). i .«open») e) f
+
+-- an open session is its own parts
+own-session : (s : Session) → s .open ≡ true → hasIndex (s .header) (s .pool) (s .arena) ≡ s
+own-session s e = λ i. record { «open» = sym e i; header = s .header; pool = s .pool; arena = s .arena }
+
 module _ {s : Session} {dir slots arena : List ℕ} {line : Line} {key value old out : List ℕ} {at : ℕ} (x : OpenAsked s dir slots arena line key value old out at) where
   pub open-within : Within (s .header .fanout) (s .pool) (s .arena)
   open-within = go (x .state) (x .carries)
     where
       go : (z : State) → Carries z s dir slots arena → Within (s .header .fanout) (s .pool) (s .arena)
-      go closed e = closed-open s e (x .is-open)
+      go closed e = none-open e (x .is-open)
       go (opened f p a ns) w = own-within (x .ample) w
 
   pub open-parts : Parts (s .header .fanout) (s .pool) (s .arena) dir slots arena
@@ -155,16 +162,16 @@ module _ {s : Session} {dir slots arena : List ℕ} {line : Line} {key value old
   }
     where
       go : (z : State) → Carries z s dir slots arena → Standing (s .header) (take (s .pool) dir) (take (s .header .fanout * s .pool) slots) (take (s .arena) arena)
-      go closed e = closed-open s e (x .is-open)
+      go closed e = none-open e (x .is-open)
       go (opened f p a ns) w = standing-of (own-stand (x .ample) w)
 
   pub open-served : (c : Option Command) {now-dir now-slots now-arena now-out : List ℕ} {r : Served} {q : Session}
       → length now-dir ≡ length (take (s .pool) dir) → length now-slots ≡ length (take (s .header .fanout * s .pool) slots) → length now-arena ≡ length (take (s .arena) arena)
       → ServedBy c (s .header) (take (s .pool) dir) (take (s .header .fanout * s .pool) slots) (take (s .arena) arena) out at r now-dir now-slots now-arena now-out
       → q ≡ hasIndex (r .header) (s .pool) (s .arena)
-      → RepliedBy (λ z. lineTurn z c) s dir slots arena out at (record { session = q; at = r .at })
+      → RepliedBy (λ z. lineTurn z c) (λ z. Idle z c) s dir slots arena out at (record { session = q; at = r .at })
       (now-dir ++ drop (s .pool) dir) (now-slots ++ drop (s .header .fanout * s .pool) slots) (now-arena ++ drop (s .arena) arena) now-out
-  open-served c {now-dir} {now-slots} {now-arena} {now-out} {r} {q} i j k y e closed w = closed-open s w (x .is-open)
+  open-served c {now-dir} {now-slots} {now-arena} {now-out} {r} {q} i j k y e closed w = none-open w (x .is-open)
   open-served c {now-dir} {now-slots} {now-arena} {now-out} {r} {q} i j k y e (opened f p a ns) w =
       let v = y f p a ns (own-stand (x .ample) w) in
       let pool : length now-dir ≡ s .pool = i ∙ length-take-le (s .pool) dir (open-parts .pool-in) in
@@ -176,4 +183,12 @@ module _ {s : Session} {dir slots arena : List ℕ} {line : Line} {key value old
         carries =
             subst (λ (t : Session). Carries z t (now-dir ++ drop (s .pool) dir) (now-slots ++ drop (s .header .fanout * s .pool) slots) (now-arena ++ drop (s .arena) arena)) (sym e)
             (back-carries z (r .header) dir slots arena now-dir now-slots now-arena (s .pool) (s .header .fanout * s .pool) (s .arena) pool words bytes (v .stands));
+        kept = λ t.
+            let k = v .kept t in
+            record {
+              session-is = e ∙ ap (λ (h : Header). hasIndex h (s .pool) (s .arena)) (k .header-is) ∙ own-session s (x .is-open);
+              dir-is = ap (λ (l : List ℕ). l ++ drop (s .pool) dir) (k .dir-is) ∙ take-append-drop (s .pool) dir;
+              slots-are = ap (λ (l : List ℕ). l ++ drop (s .header .fanout * s .pool) slots) (k .slots-are) ∙ take-append-drop (s .header .fanout * s .pool) slots;
+              arena-is = ap (λ (l : List ℕ). l ++ drop (s .arena) arena) (k .arena-is) ∙ take-append-drop (s .arena) arena;
+            };
       }

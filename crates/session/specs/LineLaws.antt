@@ -19,7 +19,7 @@ use Rattle.session.specs.BoundLaws.{SmallState, bad-most, turn-most}
 use Rattle.session.specs.FrontLaws.{closed-open}
 use Rattle.session.specs.Serving.{Ample, LineWithin, NewAsked, OpenAsked, Ordinary, Replies, RepliedBy, toldCommand}
 use Rattle.session.specs.Session.{Carries, ReplyAsked, ReplyMade, Tells}
-use Rattle.session.specs.Turns.{State, Turn, lineTurn, newTurn, turn}
+use Rattle.session.specs.Turns.{Idle, NewIdle, State, Turn, lineTurn, newTurn, turn}
 use Rattle.session.specs.Turns.State.{closed, opened}
 use Rattle.session.specs.declared.Replied.{Replied}
 use Rattle.session.specs.declared.Session.{Session}
@@ -97,11 +97,12 @@ module _ {s : Session} {dir slots arena key value old out : List ℕ} {at : ℕ}
   -- the turn that was taken is the line's
   pub reply-made : (line key′ value′ : Bytes) (q : Line) {r : Replied} {now-dir now-slots now-arena now-out : List ℕ} → Parsed line key key′ value value′ q
       → length now-dir ≡ length dir → length now-slots ≡ length slots → length now-arena ≡ length arena
-      → RepliedBy (λ z. lineTurn z (toldCommand q key′ value′)) s dir slots arena out at r now-dir now-slots now-arena now-out
+      → RepliedBy (λ z. lineTurn z (toldCommand q key′ value′)) (λ z. Idle z (toldCommand q key′ value′)) s dir slots arena out at r now-dir now-slots now-arena now-out
       → ReplyMade s dir slots arena line out at r now-dir now-slots now-arena now-out
   reply-made line key′ value′ q {r} {now-dir} {now-slots} {now-arena} {now-out} y i j k v = record {
     answered = λ z c w t. subst (λ (d : Option Command). Wrote out now-out at (lineTurn z d .text) (r .at)) (sym (told-one line key key′ value value′ q c y t)) (v z w .wrote);
     carried = λ z c w t. subst (λ (d : Option Command). Carries (lineTurn z d .state) (r .session) now-dir now-slots now-arena) (sym (told-one line key key′ value value′ q c y t)) (v z w .carries);
+    kept = λ z c w t i. v z w .kept (subst (λ (d : Option Command). Idle z d) (told-one line key key′ value value′ q c y t) i);
     behind =
         omega (
           arith,
@@ -122,16 +123,17 @@ module _ {s : Session} {dir slots arena key value old out : List ℕ} {at : ℕ}
 
 -- `new`, whatever stands
 
-new-turn : (z : State) (n : Sizes) (key value : Bytes) → newTurn z (n .fanout) (n .pool) (n .arena) ≡ lineTurn z (toldCommand (New n) key value)
-new-turn closed n key value = refl
-new-turn (opened g q b ns) n key value = refl
-
 pub new-line : {s : Session} {dir slots arena out : List ℕ} {at : ℕ} {r : Replied} {now-dir now-slots now-arena now-out : List ℕ} (q : Line) (n : Sizes) (key value : Bytes) → q ≡ New n
-    → RepliedBy (λ z. newTurn z (n .fanout) (n .pool) (n .arena)) s dir slots arena out at r now-dir now-slots now-arena now-out
-    → RepliedBy (λ z. lineTurn z (toldCommand q key value)) s dir slots arena out at r now-dir now-slots now-arena now-out
-new-line {out = out} {at} {r} {now-dir} {now-slots} {now-arena} {now-out} q n key value e v z w =
-    subst (λ (l : Line). Replies (lineTurn z (toldCommand l key value)) out at r now-dir now-slots now-arena now-out) (sym e)
-    (subst (λ (t : Turn). Replies t out at r now-dir now-slots now-arena now-out) (new-turn z n key value) (v z w))
+    → RepliedBy (λ z. newTurn z (n .fanout) (n .pool) (n .arena)) (λ _. NewIdle (n .fanout) (n .pool) (n .arena)) s dir slots arena out at r now-dir now-slots now-arena now-out
+    → RepliedBy (λ z. lineTurn z (toldCommand q key value)) (λ z. Idle z (toldCommand q key value)) s dir slots arena out at r now-dir now-slots now-arena now-out
+new-line {s} {dir} {slots} {arena} {out} {at} {r} {now-dir} {now-slots} {now-arena} {now-out} q n key value e v z w =
+    subst (λ (l : Line). Replies (lineTurn z (toldCommand l key value)) (Idle z (toldCommand l key value)) s dir slots arena out at r now-dir now-slots now-arena now-out) (sym e)
+    (go z (v z w))
+  where
+    go : (y : State) → Replies (newTurn y (n .fanout) (n .pool) (n .arena)) (NewIdle (n .fanout) (n .pool) (n .arena)) s dir slots arena out at r now-dir now-slots now-arena now-out
+        → Replies (lineTurn y (toldCommand (New n) key value)) (Idle y (toldCommand (New n) key value)) s dir slots arena out at r now-dir now-slots now-arena now-out
+    go closed x = x
+    go (opened g p b ns) x = x
 
 -- any other line, where there is no index
 
@@ -145,7 +147,8 @@ closed-turn Leaves key value o = refl
 closed-turn Bad key value o = refl
 
 pub closed-line : {s : Session} {dir slots arena out now-out : List ℕ} {at e : ℕ} (q : Line) (key value : Bytes) → Ordinary q → s .open ≡ false → Wrote out now-out at (answered said.bad) e
-    → RepliedBy (λ z. lineTurn z (toldCommand q key value)) s dir slots arena out at (record { session = s; at = e }) dir slots arena now-out
+    → RepliedBy (λ z. lineTurn z (toldCommand q key value)) (λ z. Idle z (toldCommand q key value)) s dir slots arena out at (record { session = s; at = e }) dir slots arena now-out
 closed-line {s} {dir} {slots} {arena} {out} {now-out} {at} {e} q key value o i y closed w =
-    subst (λ (t : Turn). Replies t out at (record { session = s; at = e }) dir slots arena now-out) (sym (closed-turn q key value o)) (record { wrote = y; carries = w })
+    subst (λ (t : Turn). Replies t (Idle closed (toldCommand q key value)) s dir slots arena out at (record { session = s; at = e }) dir slots arena now-out) (sym (closed-turn q key value o))
+    (record { wrote = y; carries = w; kept = λ _. record { session-is = refl; dir-is = refl; slots-are = refl; arena-is = refl } })
 closed-line {s} q key value o i y (opened f p a ns) w = closed-open s i (w .is-open)

@@ -4,6 +4,7 @@ use Prim.Native.Nat.{ℕ, _+_, _*_, _≤_}
 use native.Mathlib.Omega.{arith}
 use mathlib.Core.Bool.{Bool, cond, false, not, true}
 use mathlib.Core.List.{List, _++_}
+use mathlib.Core.Logic.{inl, inr}
 use mathlib.Core.Path.{_≡_, refl, sym, ap, subst, _∙_}
 use lib.ListN.{drop, length, take, take-append-drop}
 use lib.Seq.{length-take-le}
@@ -25,7 +26,7 @@ use Rattle.session.specs.BoundLaws.{opens-most, refusal-most}
 use Rattle.session.specs.FrontLaws.{Parts, Within, ample-parts, back-carries, not-above}
 use Rattle.session.specs.Serving.{NewAsked, Replies, RepliedBy, Stands, hasIndex}
 use Rattle.session.specs.Session.{Carries}
-use Rattle.session.specs.Turns.{State, above, newTurn, openTurn, turn}
+use Rattle.session.specs.Turns.{NewIdle, Refuses, State, above, newTurn, openTurn, turn}
 use Rattle.session.specs.Turns.State.{opened}
 use Rattle.session.specs.declared.Session.{Session}
 
@@ -42,10 +43,10 @@ module _ {dir slots arena out : List ℕ} {at : ℕ} (x : NewAsked dir slots are
 module _ {dir slots arena out : List ℕ} {at : ℕ} (s : Session) (f p a : ℕ) where
   -- above a ceiling
   pub above-replied : {now-out : List ℕ} {e : ℕ} → above f p a ≡ true → Wrote out now-out at (refusalText Shape) e
-      → RepliedBy (λ z. newTurn z f p a) s dir slots arena out at (record { session = s; at = e }) dir slots arena now-out
+      → RepliedBy (λ z. newTurn z f p a) (λ _. NewIdle f p a) s dir slots arena out at (record { session = s; at = e }) dir slots arena now-out
   above-replied {now-out} {e} t y z w =
-      subst (λ (b : Bool). Replies (cond b (turn (refusalText Shape) z) (openTurn z f p a (createAnswer f p (f * p) a))) out at (record { session = s; at = e }) dir slots arena now-out) (sym t)
-      (record { wrote = y; carries = w })
+      subst (λ (b : Bool). Replies (cond b (turn (refusalText Shape) z) (openTurn z f p a (createAnswer f p (f * p) a))) (NewIdle f p a) s dir slots arena out at (record { session = s; at = e }) dir slots arena now-out) (sym t)
+      (record { wrote = y; carries = w; kept = λ _. record { session-is = refl; dir-is = refl; slots-are = refl; arena-is = refl } })
 
 -- within them
 
@@ -58,6 +59,10 @@ same-create {f} {p} {a} {dir} {slots} {arena} q =
 -- an accepted creation leaves the fresh list
 fresh-accepted : (f p w a : ℕ) (ns : List Node) → createAnswer f p w a ≡ accepted ns → fresh ≡ ns
 fresh-accepted f p w a ns e = same-accepted (passed-if (not (meetsSizes f p w a)) Shape (accepted fresh) e .1)
+
+not-idle : (f p a : ℕ) (ns : List Node) → above f p a ≡ false → createAnswer f p (f * p) a ≡ accepted ns → NewIdle f p a → ⊥
+not-idle f p a ns u e (inl t) = let z : _≡_ {A = ℕ} 0 1 = cc (t, u) in omega (arith, z)
+not-idle f p a ns u e (inr t) = subst Refuses e t
 
 kept-place : {m n : ℕ} → Kept m ≡ Kept n → m ≡ n
 kept-place e = cc (e)
@@ -81,21 +86,21 @@ module _ {dir slots arena : List ℕ} (out : List ℕ) (at : ℕ) (s : Session) 
   slots-long = j ∙ length-take-le (f * p) slots (q .words-in)
 
   by-open : (t : Session) (e : ℕ) (o : Answer (List Node)) → createAnswer f p (f * p) a ≡ o
-      → ((z : State) → Carries z s dir slots arena → Replies (openTurn z f p a o) out at (record { session = t; at = e }) (now-dir ++ drop p dir) (now-slots ++ drop (f * p) slots) arena now-out)
-      → RepliedBy (λ z. newTurn z f p a) s dir slots arena out at (record { session = t; at = e }) (now-dir ++ drop p dir) (now-slots ++ drop (f * p) slots) arena now-out
+      → ((z : State) → Carries z s dir slots arena → Replies (openTurn z f p a o) (NewIdle f p a) s dir slots arena out at (record { session = t; at = e }) (now-dir ++ drop p dir) (now-slots ++ drop (f * p) slots) arena now-out)
+      → RepliedBy (λ z. newTurn z f p a) (λ _. NewIdle f p a) s dir slots arena out at (record { session = t; at = e }) (now-dir ++ drop p dir) (now-slots ++ drop (f * p) slots) arena now-out
   by-open t e o y h z w =
-      subst (λ (b : Bool). Replies (cond b (turn (refusalText Shape) z) (openTurn z f p a (createAnswer f p (f * p) a))) out at (record { session = t; at = e }) (now-dir ++ drop p dir) (now-slots ++ drop (f * p) slots) arena now-out) (sym u)
-      (subst (λ (b : Answer (List Node)). Replies (openTurn z f p a b) out at (record { session = t; at = e }) (now-dir ++ drop p dir) (now-slots ++ drop (f * p) slots) arena now-out) (sym y) (h z w))
+      subst (λ (b : Bool). Replies (cond b (turn (refusalText Shape) z) (openTurn z f p a (createAnswer f p (f * p) a))) (NewIdle f p a) s dir slots arena out at (record { session = t; at = e }) (now-dir ++ drop p dir) (now-slots ++ drop (f * p) slots) arena now-out) (sym u)
+      (subst (λ (b : Answer (List Node)). Replies (openTurn z f p a b) (NewIdle f p a) s dir slots arena out at (record { session = t; at = e }) (now-dir ++ drop p dir) (now-slots ++ drop (f * p) slots) arena now-out) (sym y) (h z w))
 
   abbrev Came : Answer (List Node) → Type 0
   Came o = NewReply o f (take p dir) (take (f * p) slots) (take a arena) out at now-dir now-slots now-out r
 
   pub kept-replied : {e : ℕ} → Came (createAnswer f (length (take p dir)) (length (take (f * p) slots)) (length (take a arena))) → r ≡ Kept e
-      → RepliedBy (λ z. newTurn z f p a) s dir slots arena out at (record { session = s; at = e }) (now-dir ++ drop p dir) (now-slots ++ drop (f * p) slots) arena now-out
+      → RepliedBy (λ z. newTurn z f p a) (λ _. NewIdle f p a) s dir slots arena out at (record { session = s; at = e }) (now-dir ++ drop p dir) (now-slots ++ drop (f * p) slots) arena now-out
   kept-replied {e} y g = go (createAnswer f (length (take p dir)) (length (take (f * p) slots)) (length (take a arena))) refl y
     where
       go : (o : Answer (List Node)) → createAnswer f (length (take p dir)) (length (take (f * p) slots)) (length (take a arena)) ≡ o → Came o
-          → RepliedBy (λ z. newTurn z f p a) s dir slots arena out at (record { session = s; at = e }) (now-dir ++ drop p dir) (now-slots ++ drop (f * p) slots) arena now-out
+          → RepliedBy (λ z. newTurn z f p a) (λ _. NewIdle f p a) s dir slots arena out at (record { session = s; at = e }) (now-dir ++ drop p dir) (now-slots ++ drop (f * p) slots) arena now-out
       go (accepted ns) b v = kept-made (sym g ∙ v .is)
       go (refused x) b v =
           let place : v .place ≡ e = kept-place (sym (v .is) ∙ g) in
@@ -104,14 +109,15 @@ module _ {dir slots arena : List ℕ} (out : List ℕ) (at : ℕ) (s : Session) 
           by-open s e (refused x) (same-create q ∙ b) (λ z w. record {
             wrote = subst (λ (n : ℕ). Wrote out now-out at (refusalText x) n) place (wrote-is (v .wrote) (ap newText b));
             carries = subst (λ (d : List ℕ). Carries z s d (now-slots ++ drop (f * p) slots) arena) dirs (subst (λ (d : List ℕ). Carries z s dir d arena) words w);
+            kept = λ _. record { session-is = refl; dir-is = sym dirs; slots-are = sym words; arena-is = refl };
           })
 
   pub made-replied : {h : Header} {e : ℕ} {t : Session} → Came (createAnswer f (length (take p dir)) (length (take (f * p) slots)) (length (take a arena))) → r ≡ Made h e → t ≡ hasIndex h p a
-      → RepliedBy (λ z. newTurn z f p a) s dir slots arena out at (record { session = t; at = e }) (now-dir ++ drop p dir) (now-slots ++ drop (f * p) slots) arena now-out
+      → RepliedBy (λ z. newTurn z f p a) (λ _. NewIdle f p a) s dir slots arena out at (record { session = t; at = e }) (now-dir ++ drop p dir) (now-slots ++ drop (f * p) slots) arena now-out
   made-replied {h} {e} {t} y g c = go (createAnswer f (length (take p dir)) (length (take (f * p) slots)) (length (take a arena))) refl y
     where
       go : (o : Answer (List Node)) → createAnswer f (length (take p dir)) (length (take (f * p) slots)) (length (take a arena)) ≡ o → Came o
-          → RepliedBy (λ z. newTurn z f p a) s dir slots arena out at (record { session = t; at = e }) (now-dir ++ drop p dir) (now-slots ++ drop (f * p) slots) arena now-out
+          → RepliedBy (λ z. newTurn z f p a) (λ _. NewIdle f p a) s dir slots arena out at (record { session = t; at = e }) (now-dir ++ drop p dir) (now-slots ++ drop (f * p) slots) arena now-out
       go (refused x) b v = kept-made (sym (v .is) ∙ g)
       go (accepted ns) b v =
           let same = made-parts (sym (v .is) ∙ g) in
@@ -135,4 +141,5 @@ module _ {dir slots arena : List ℕ} (out : List ℕ) (at : ℕ) (s : Session) 
                 (subst (λ (g : Header). Carries (opened f p a ns) (hasIndex g p a) (now-dir ++ drop p dir) (now-slots ++ drop (f * p) slots) arena) (same .headers)
                 (subst (λ (d : List ℕ). Carries (opened f p a ns) (hasIndex (v .header) p a) (now-dir ++ drop p dir) (now-slots ++ drop (f * p) slots) d) (take-append-drop a arena)
                 (back-carries (opened f p a ns) (v .header) dir slots arena now-dir now-slots (take a arena) p (f * p) a dir-long slots-long bytes stands)));
+            kept = λ d. absurd (not-idle f p a ns u (same-create q ∙ b) d);
           })

@@ -6,6 +6,7 @@ use borrow.Author.Tests.{le-ltb, lt-ltb}
 use lib.Dec.{ltb}
 use mathlib.Core.Bool.{true}
 use mathlib.Core.List.{List}
+use mathlib.Core.Logic.{inl, inr}
 use mathlib.Core.Option.{Option, none, some}
 use mathlib.Core.Path.{_≡_, refl, sym, ap, subst, _∙_}
 use lib.ListN.{length}
@@ -16,7 +17,7 @@ use Rattle.changes.specs.Outcomes.{ChangedBy, Lent, lent, oldBytes, oldTold}
 use Rattle.changes.specs.declared.Changed.{Changed}
 use Rattle.changes.specs.declared.Old.{Old}
 use Rattle.changes.specs.declared.Old.the-variants.{Value}
-use Rattle.layout.specs.Lays.{W}
+use Rattle.layout.specs.Lays.{Holds, W}
 use Rattle.layout.specs.LaysUnique.{holds-unique}
 use Rattle.layout.specs.declared.Header.{Header}
 use Rattle.lines.specs.Grammar.{Command}
@@ -24,18 +25,22 @@ use Rattle.lines.specs.Grammar.Command.{dels, gets, nexts, puts, shows}
 use Rattle.lines.specs.declared.Line.{Line}
 use Rattle.lines.specs.declared.Line.the-variants.{Del, Get, Next, Put}
 use Rattle.lists.specs.Part.{length-put, part-put, put}
-use Rattle.model.specs.Answers.{Answer, accepted, insertAnswer, refused, removeAnswer, sizeOf}
+use Rattle.model.specs.Answers.{Answer, accepted, insertAnswer, longKey, refused, removeAnswer, short, sizeOf}
 use Rattle.model.specs.Answers as model
 use Rattle.model.specs.Good.{Good, limits}
-use Rattle.model.specs.Leaves.{Node}
-use Rattle.model.specs.Limits.{keyLimit}
+use Rattle.model.specs.Leaves.{Node, pairsOf}
+use Rattle.model.specs.Map.{lookup}
+use Rattle.model.specs.PairLaws.{lookup-owned, remove-absent}
+use Rattle.model.specs.PassedLaws.{passed-if, same-accepted}
+use Rattle.model.specs.Rules.{removeRule}
+use Rattle.model.specs.declared.Refusal.the-variants.{LongKey, ShortOutput}
 use Rattle.order.specs.Bytes.{Bytes}
 use Rattle.session.specs.BoundLaws.{OldFits, Small, bad-most, get-most, insert-most, insert-old-fits, leaves-most, next-most, remove-most, remove-old-fits}
-use Rattle.replies.specs.Replies.{NextAsked, NextReply, ReadAsked, ReadReply, getSaid, nextSaid}
-use Rattle.session.specs.Serving.{ChangeAsked, LineAsked, LineWithin, OldWithin, ServeAsked, ServedBy, Serves, Stands, oldSaid, toldCommand}
+use Rattle.replies.specs.Replies.{NextReply, ReadAsked, ReadReply, getSaid, nextSaid}
+use Rattle.session.specs.Serving.{ChangeAsked, LineAsked, LineWithin, OldWithin, ServeAsked, ServedBy, Serves, Stands, Unmoved, oldSaid, toldCommand}
 use Rattle.session.specs.Session.{answerLimit}
 use Rattle.replies.specs.Texts.{changedText, leavesText, oldText}
-use Rattle.session.specs.Turns.{Turn, above, arenaCeiling, fanoutCeiling, lineTurn, nodesAfter, outputRoom, poolCeiling, turn}
+use Rattle.session.specs.Turns.{Idle, Refuses, Turn, above, arenaCeiling, fanoutCeiling, lineTurn, nodesAfter, outputRoom, poolCeiling, turn}
 use Rattle.session.specs.Turns.State.{opened}
 use Rattle.session.specs.declared.Served.{Served}
 use Rattle.tree_insert.specs.Kept.{insert-keeps-w}
@@ -73,6 +78,9 @@ old-inside : (old : Bytes) (o : Option Bytes) (x : Old) → sizeOf o ≤ length 
 old-inside old none x h e = rw e tt
 old-inside old (some v) x h e = rw e (omega (arith, length-put old 0 v (omega arith)))
 
+header-path : {r q : Header} → r .fanout ≡ q .fanout → r .leaves ≡ q .leaves → r .pairs ≡ q .pairs → r .charge ≡ q .charge → r ≡ q
+header-path f l p c = λ i. record { fanout = f i; leaves = l i; pairs = p i; charge = c i }
+
 module _ (h : Header) (before : Lent) (r : Changed) (after : Lent) where
   -- what it leaves
   changed-stands : {f p a : ℕ} {ns : List Node} (m : Answer model.Changed) → ChangedBy m h before r after
@@ -94,6 +102,11 @@ module _ (h : Header) (before : Lent) (r : Changed) (after : Lent) where
         holds = m .holds;
         good = subst (λ (xs : List Node). Good (limits f) p a xs) same (rw (fan, pool, are) at (w .good));
       }
+
+  changed-kept : (m : Answer model.Changed) → ChangedBy m h before r after → Refuses m
+      → Unmoved h (before .dir) (before .slots) (before .arena) (r .header) (after .dir) (after .slots) (after .arena)
+  changed-kept (refused x) k t = record { header-is = k .header-is; dir-is = k .dir-is; slots-are = k .slots-are; arena-is = k .arena-is }
+  changed-kept (accepted c) m t = absurd t
 
   module _ (long : length (before .out) ≡ outputRoom) where
     changed-told : (m : Answer model.Changed) → OldFits m → ChangedBy m h before r after → oldSaid (r .old) (after .out) ≡ changedText m
@@ -132,9 +145,21 @@ module _ (h : Header) (before : Lent) (r : Changed) (after : Lent) where
         record {
           wrote = wrote-is y (changed-told long m (insert-old-fits (stands-small s) f p a k v outputRoom) by);
           stands = changed-stands m by s (insert-keeps-w k v before r after w o);
+          kept = changed-kept m by;
         }
 
   -- `del`
+  absent-header : {f p a : ℕ} {ns : List Node} (k : Bytes) (n : ℕ) (m : Answer model.Changed) → removeAnswer true k n ns ≡ m → ChangedBy m h before r after
+      → Stands f p a ns h (before .dir) (before .slots) (before .arena) → lookup k (pairsOf ns) ≡ none → r .header ≡ h
+  absent-header k n (refused x) e by s l = by .header-is
+  absent-header {ns = ns} k n (accepted c) e by s l =
+      let old = lookup k (pairsOf ns) in
+      let done : accepted (record { old = old; nodes = removeRule true k ns }) ≡ accepted c =
+      passed-if (short n old) (ShortOutput (sizeOf old)) _ (passed-if (longKey k) LongKey _ e .1) .1 in
+      let same : c .nodes ≡ ns = ap (λ (x : model.Changed). x .nodes) (sym (same-accepted done)) ∙ remove-absent true k ns (lookup-owned k ns (s .good .tiles) ∙ l) in
+      let y : Holds (r .header) (after .dir) (after .slots) (after .arena) ns = subst (λ (xs : List Node). Holds (r .header) (after .dir) (after .slots) (after .arena) xs) same (by .holds) in
+      header-path (by .fanout-is) (y .leaves-are ∙ sym (s .holds .leaves-are)) (y .pairs-are ∙ sym (s .holds .pairs-are)) (y .charge-is ∙ sym (s .holds .charge-is))
+
   module _ (k : Bytes) {out : Bytes} {at : ℕ} (o : RemoveOutcome h k before r after) where
     pub del-asked : ServeAsked h (before .dir) (before .slots) (before .arena) (before .out) out at → ChangeAsked (r .old) (after .out) out at
     del-asked x =
@@ -158,9 +183,21 @@ module _ (h : Header) (before : Lent) (r : Changed) (after : Lent) where
         record {
           wrote = wrote-is y (changed-told long m (remove-old-fits (stands-small s) k outputRoom) by);
           stands = changed-stands m by s (remove-keeps-w k before r after w o);
+          kept = λ t. elim t [
+            | inl x ↦ changed-kept m by x
+            | inr l ↦ record {
+              header-is = absent-header k outputRoom m refl by s l;
+              dir-is = ap (λ (x : Lent). x .dir) (o .held w .absent l);
+              slots-are = ap (λ (x : Lent). x .slots) (o .held w .absent l);
+              arena-is = ap (λ (x : Lent). x .arena) (o .held w .absent l);
+            }
+          ];
         }
 
 -- the lines
+
+unmoved : (h : Header) (dir slots arena : List ℕ) → Unmoved h dir slots arena h dir slots arena
+unmoved h dir slots arena = record { header-is = refl; dir-is = refl; slots-are = refl; arena-is = refl }
 
 module _ {h : Header} {dir slots arena : List ℕ} {line : Line} {key value old out : List ℕ} {at : ℕ} (w : LineAsked h dir slots arena line key value old out at) where
   within-at : (other : Line) → line ≡ other → LineWithin other key value
@@ -191,8 +228,8 @@ module _ {h : Header} {dir slots arena out : List ℕ} {at : ℕ} where
     read-served : (c : Option Command) (text : List Node → Bytes) → ((f p a : ℕ) (ns : List Node) → lineTurn (opened f p a ns) c ≡ turn (text ns) (opened f p a ns))
         → ReadReply h dir slots arena text out at now-out r → ServedBy c h dir slots arena out at (record { header = h; at = r }) dir slots arena now-out
     read-served c text e x f p a ns s =
-        subst (λ (t : Turn). Serves t out at (record { header = h; at = r }) dir slots arena now-out) (sym (e f p a ns))
-        (record { wrote = read-said s text x; stands = s })
+        subst (λ (t : Turn). Serves t (Idle (opened f p a ns) c) h dir slots arena out at (record { header = h; at = r }) dir slots arena now-out) (sym (e f p a ns))
+        (record { wrote = read-said s text x; stands = s; kept = λ _. unmoved h dir slots arena })
 
     pub get-served : (k : Bytes) → ReadReply h dir slots arena (getSaid k) out at now-out r
         → ServedBy (some (gets k)) h dir slots arena out at (record { header = h; at = r }) dir slots arena now-out
@@ -207,7 +244,7 @@ module _ {h : Header} {dir slots arena out : List ℕ} {at : ℕ} where
     leaves-served x = read-served (some shows) leavesText (λ f p a ns. refl) x
 
     pub bad-served : Wrote out now-out at (answered said.bad) r → ServedBy none h dir slots arena out at (record { header = h; at = r }) dir slots arena now-out
-    bad-served x f p a ns s = record { wrote = x; stands = s }
+    bad-served x f p a ns s = record { wrote = x; stands = s; kept = λ _. unmoved h dir slots arena }
 
   module _ {old : List ℕ} (x : ServeAsked h dir slots arena old out at) where
     pub get-asked : (k : Bytes) → ReadAsked h dir slots arena (getSaid k) out at
@@ -216,12 +253,8 @@ module _ {h : Header} {dir slots arena out : List ℕ} {at : ℕ} where
     pub leaves-asked : ReadAsked h dir slots arena leavesText out at
     leaves-asked = read-asked leavesText x (λ f p a ns s. leaves-most s)
 
-    pub next-asked : (k : Bytes) → NextAsked h dir slots arena k old out at
-    unfolding outputRoom keyLimit
-    next-asked k = record {
-      read = read-asked (nextSaid k (length old)) x (λ f p a ns s. next-most s k (length old));
-      holds-keys = omega (arith, x .old-long);
-    }
+    pub next-asked : (k : Bytes) → ReadAsked h dir slots arena (nextSaid k (length old)) out at
+    next-asked k = read-asked (nextSaid k (length old)) x (λ f p a ns s. next-most s k (length old))
 
     pub bad-asked : at + length (answered said.bad) ≤ length out
     bad-asked = omega (arith, bad-most, x .room)

@@ -1,6 +1,6 @@
 -- What the functions under `reply` ask and leave: on an index that has all of the lent buffers, what the turn of the line says.
 use Prim.Native.Nat.{ℕ, _+_, _*_, _≤_}
-use mathlib.Core.Bool.{false, true}
+use mathlib.Core.Bool.{true}
 use mathlib.Core.List.{List}
 use mathlib.Core.Option.{Option, none, some}
 use mathlib.Core.Path.{_≡_}
@@ -9,7 +9,6 @@ use Rattle.answers.specs.Answers.{Wrote, answered}
 use Rattle.answers.specs.Answers as said
 use Rattle.changes.specs.declared.Old.{Old}
 use Rattle.changes.specs.declared.Old.the-variants.{Nothing, Refused, Value}
-use Rattle.layout.specs.Examples.{header}
 use Rattle.layout.specs.Lays.{Holds}
 use Rattle.layout.specs.declared.Header.{Header}
 use Rattle.lines.specs.Grammar.{Command}
@@ -19,17 +18,13 @@ use Rattle.lines.specs.declared.Line.the-variants.{Bad, Del, Get, Leaves, New, 
 use Rattle.model.specs.Good.{Good, limits}
 use Rattle.model.specs.Leaves.{Node}
 use Rattle.order.specs.Bytes.{Bytes}
-use Rattle.session.specs.Session.{Carries, answerLimit}
+use Rattle.session.specs.Session.{Carries, Untouched, answerLimit}
 use Rattle.replies.specs.Texts.{refusalText}
-use Rattle.session.specs.Turns.{State, Turn, arenaCeiling, fanoutCeiling, lineTurn, outputRoom, poolCeiling}
+use Rattle.session.specs.Turns.{Idle, State, Turn, arenaCeiling, fanoutCeiling, lineTurn, outputRoom, poolCeiling}
 use Rattle.session.specs.Turns.State.{closed, opened}
 use Rattle.session.specs.declared.Replied.{Replied}
 use Rattle.session.specs.declared.Served.{Served}
 use Rattle.session.specs.declared.Session.{Session}
-
--- before the first accepted `new`
-abbrev pub noIndex : Session
-noIndex = record { «open» = false; header = header 0 0 0 0; pool = 0; arena = 0 }
 
 abbrev pub hasIndex : Header → (pool arena : ℕ) → Session
 hasIndex h p a = record { «open» = true; header = h; pool = p; arena = a }
@@ -59,14 +54,23 @@ pub record ServeAsked (h : Header) (dir slots arena old out : List ℕ) (at : �
   pub old-long : length old ≡ outputRoom
   pub room : at + answerLimit ≤ length out
 
-pub record Serves (t : Turn) (out : Bytes) (at : ℕ) (r : Served) (now-dir now-slots now-arena now-out : List ℕ) : Type 0 where
+-- header and buffers as they were
+pub record Unmoved (h : Header) (dir slots arena : List ℕ) (r : Header) (now-dir now-slots now-arena : List ℕ) : Type 0 where
+  pub header-is : r ≡ h
+  pub dir-is : now-dir ≡ dir
+  pub slots-are : now-slots ≡ slots
+  pub arena-is : now-arena ≡ arena
+
+pub record Serves (t : Turn) (idle : Type 0) (h : Header) (dir slots arena : List ℕ) (out : Bytes) (at : ℕ) (r : Served) (now-dir now-slots now-arena now-out : List ℕ) : Type 0 where
   pub wrote : Wrote out now-out at (t .text) (r .at)
   pub stands : StandsIn (t .state) (r .header) now-dir now-slots now-arena
+  pub kept : idle → Unmoved h dir slots arena (r .header) now-dir now-slots now-arena
 
 -- the turn of a command, or of none, on whatever index stands
 abbrev pub ServedBy : Option Command → Header → (dir slots arena : List ℕ) (out : Bytes) (at : ℕ) → Served → (now-dir now-slots now-arena now-out : List ℕ) → Type 0
 ServedBy c h dir slots arena out at r now-dir now-slots now-arena now-out =
-    (f p a : ℕ) (ns : List Node) → Stands f p a ns h dir slots arena → Serves (lineTurn (opened f p a ns) c) out at r now-dir now-slots now-arena now-out
+    (f p a : ℕ) (ns : List Node) → Stands f p a ns h dir slots arena
+    → Serves (lineTurn (opened f p a ns) c) (Idle (opened f p a ns) c) h dir slots arena out at r now-dir now-slots now-arena now-out
 
 -- what a changing call handed back, its bytes at the front of a buffer
 
@@ -121,14 +125,15 @@ pub record LineAsked (h : Header) (dir slots arena : List ℕ) (line : Line) (ke
 
 -- on the program's own buffers
 
-pub record Replies (t : Turn) (out : Bytes) (at : ℕ) (r : Replied) (now-dir now-slots now-arena now-out : List ℕ) : Type 0 where
+pub record Replies (t : Turn) (idle : Type 0) (s : Session) (dir slots arena : List ℕ) (out : Bytes) (at : ℕ) (r : Replied) (now-dir now-slots now-arena now-out : List ℕ) : Type 0 where
   pub wrote : Wrote out now-out at (t .text) (r .at)
   pub carries : Carries (t .state) (r .session) now-dir now-slots now-arena
+  pub kept : idle → Untouched s dir slots arena (r .session) now-dir now-slots now-arena
 
--- the turn that each state has, for whichever stands
-abbrev pub RepliedBy : (State → Turn) → Session → (dir slots arena : List ℕ) (out : Bytes) (at : ℕ) → Replied → (now-dir now-slots now-arena now-out : List ℕ) → Type 0
-RepliedBy t s dir slots arena out at r now-dir now-slots now-arena now-out =
-    (z : State) → Carries z s dir slots arena → Replies (t z) out at r now-dir now-slots now-arena now-out
+-- the turn that each state has, for whichever stands, and whether it touches nothing
+abbrev pub RepliedBy : (State → Turn) → (State → Type 0) → Session → (dir slots arena : List ℕ) (out : Bytes) (at : ℕ) → Replied → (now-dir now-slots now-arena now-out : List ℕ) → Type 0
+RepliedBy t idle s dir slots arena out at r now-dir now-slots now-arena now-out =
+    (z : State) → Carries z s dir slots arena → Replies (t z) (idle z) s dir slots arena out at r now-dir now-slots now-arena now-out
 
 -- the buffers that an index has fronts of are as large as the ceilings ask
 pub record Ample (dir slots arena : List ℕ) : Type 0 where

@@ -6,12 +6,13 @@ use mathlib.Core.Option.{Option, none, some}
 use mathlib.Core.Path.{_≡_}
 use lib.ListN.{length, take}
 use Rattle.answers.specs.Answers.{Wrote}
+use Rattle.layout.specs.Examples.{header}
 use Rattle.layout.specs.Lays.{Holds}
 use Rattle.lines.specs.Grammar.{Command, Says}
 use Rattle.model.specs.Good.{Good, limits}
 use Rattle.model.specs.Leaves.{Node}
 use Rattle.order.specs.Bytes.{Bytes}
-use Rattle.session.specs.Turns.{State, arenaCeiling, closed, fanoutCeiling, lineTurn, opened, outputRoom, poolCeiling}
+use Rattle.session.specs.Turns.{Idle, State, arenaCeiling, closed, fanoutCeiling, lineTurn, opened, outputRoom, poolCeiling}
 use Rattle.session.specs.declared.Replied.{Replied}
 use Rattle.session.specs.declared.Session.{Session}
 
@@ -32,8 +33,12 @@ pub record Fronts (f p a : ℕ) (ns : List Node) (s : Session) (dir slots arena 
   pub holds : Holds (s .header) (take p dir) (take (f * p) slots) (take a arena) ns
   pub good : Good (limits f) p a ns
 
+-- before the first accepted `new`
+abbrev pub noIndex : Session
+noIndex = record { «open» = false; header = header 0 0 0 0; pool = 0; arena = 0 }
+
 abbrev pub Carries : State → Session → (dir slots arena : List ℕ) → Type 0
-Carries closed s dir slots arena = s .open ≡ false
+Carries closed s dir slots arena = s ≡ noIndex
 Carries (opened f p a ns) s dir slots arena = Fronts f p a ns s dir slots arena
 
 -- the program's buffers: as large as its ceilings ask
@@ -55,10 +60,19 @@ pub record ReplyAsked (s : Session) (dir slots arena key value old out : List �
   pub carries : Carries state s dir slots arena
   pub room : at + answerLimit ≤ length out
 
+-- session and buffers as they were
+pub record Untouched (s : Session) (dir slots arena : List ℕ) (r : Session) (now-dir now-slots now-arena : List ℕ) : Type 0 where
+  pub session-is : r ≡ s
+  pub dir-is : now-dir ≡ dir
+  pub slots-are : now-slots ≡ slots
+  pub arena-is : now-arena ≡ arena
+
 -- for whatever stood, and whatever the line says: that text, and that stands then
 pub record ReplyMade (s : Session) (dir slots arena line out : List ℕ) (at : ℕ) (r : Replied) (now-dir now-slots now-arena now-out : List ℕ) : Type 0 where
   pub answered : (z : State) (c : Option Command) → Carries z s dir slots arena → Tells line c → Wrote out now-out at (lineTurn z c .text) (r .at)
   pub carried : (z : State) (c : Option Command) → Carries z s dir slots arena → Tells line c → Carries (lineTurn z c .state) (r .session) now-dir now-slots now-arena
+  pub kept : (z : State) (c : Option Command) → Carries z s dir slots arena → Tells line c → Idle z c
+      → Untouched s dir slots arena (r .session) now-dir now-slots now-arena
   pub behind : r .at ≤ at + answerLimit
   pub said : Option Command
   pub tells : Tells line said

@@ -2,12 +2,15 @@
 use Prim.Native.Nat.{ℕ, _*_}
 use mathlib.Core.Bool.{Bool, cond, true}
 use mathlib.Core.List.{List}
+use mathlib.Core.Logic.{_⊎_}
 use mathlib.Core.Option.{Option, none, some}
+use mathlib.Core.Path.{_≡_}
 use lib.Dec.{ltb}
 use Rattle.answers.specs.Answers.{answered, bad}
 use Rattle.lines.specs.Grammar.{Command, dels, gets, makes, nexts, puts, shows}
 use Rattle.model.specs.Answers.{Answer, Changed, accepted, createAnswer, getAnswer, getGtAnswer, insertAnswer, refused, removeAnswer}
-use Rattle.model.specs.Leaves.{Node}
+use Rattle.model.specs.Leaves.{Node, pairsOf}
+use Rattle.model.specs.Map.{lookup}
 use Rattle.model.specs.declared.Refusal.the-variants.{Shape}
 use Rattle.order.specs.Bytes.{Bytes}
 use Rattle.replies.specs.Texts.{changedText, getText, leavesText, newText, nextText, refusalText}
@@ -82,3 +85,34 @@ abbrev pub lineTurn : State → Option Command → Turn
 lineTurn s none = turn (answered bad) s
 lineTurn closed (some c) = closedTurn c
 lineTurn (opened f p a ns) (some c) = serveTurn f p a ns c
+
+-- A line that touches nothing: it says no command, or one that reads, or one that is refused, or a `del` of a key that is not there; and, where
+-- there is no index, any but an accepted `new`.
+
+abbrev pub Refuses : {A : Type 0} → Answer A → Type 0
+Refuses (refused x) = Unit {0}
+Refuses (accepted y) = ⊥
+
+abbrev pub NewIdle : (fanout pool arena : ℕ) → Type 0
+NewIdle f p a = (above f p a ≡ true) ⊎ Refuses (createAnswer f p (f * p) a)
+
+abbrev pub serveIdle : (fanout pool arena : ℕ) → List Node → Command → Type 0
+serveIdle f p a ns (makes g q b) = NewIdle g q b
+serveIdle f p a ns (puts k v) = Refuses (insertAnswer f p a k v outputRoom ns)
+serveIdle f p a ns (gets k) = Unit {0}
+serveIdle f p a ns (dels k) = Refuses (removeAnswer true k outputRoom ns) ⊎ (lookup k (pairsOf ns) ≡ none)
+serveIdle f p a ns (nexts k) = Unit {0}
+serveIdle f p a ns shows = Unit {0}
+
+abbrev pub closedIdle : Command → Type 0
+closedIdle (makes g q b) = NewIdle g q b
+closedIdle (puts k v) = Unit {0}
+closedIdle (gets k) = Unit {0}
+closedIdle (dels k) = Unit {0}
+closedIdle (nexts k) = Unit {0}
+closedIdle shows = Unit {0}
+
+abbrev pub Idle : State → Option Command → Type 0
+Idle s none = Unit {0}
+Idle closed (some c) = closedIdle c
+Idle (opened f p a ns) (some c) = serveIdle f p a ns c

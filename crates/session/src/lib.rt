@@ -3,9 +3,9 @@ ghost use mathlib.Core.Path.{_≡_};
 ghost use mathlib.Core.Option.{some};
 ghost use Rattle.answers.specs.Answers.{Wrote};
 ghost use Rattle.lines.specs.Grammar.Command.{dels, puts};
-ghost use Rattle.session.specs.Serving.{ChangeAsked, LineAsked, NewAsked, OpenAsked, RepliedBy, ServeAsked, ServedBy, hasIndex, noIndex, oldSaid, toldCommand};
-ghost use Rattle.session.specs.Session.{ReplyAsked, ReplyMade};
-ghost use Rattle.session.specs.Turns.{above, lineTurn, newTurn};
+ghost use Rattle.session.specs.Serving.{ChangeAsked, LineAsked, NewAsked, OpenAsked, RepliedBy, ServeAsked, ServedBy, hasIndex, oldSaid, toldCommand};
+ghost use Rattle.session.specs.Session.{ReplyAsked, ReplyMade, noIndex};
+ghost use Rattle.session.specs.Turns.{Idle, NewIdle, above, lineTurn, newTurn};
 use answers::write_bad;
 use answers::write_none;
 use answers::write_old;
@@ -104,7 +104,7 @@ fn start_afresh(
     at: usize,
 ) -> Replied
     requires { ⌜ NewAsked (now dir) (now slots) (now arena) (now out) at ⌝ }
-    ensures { λ r. ⌜ RepliedBy (λ z. newTurn z (n .fanout) (n .pool) (n .arena)) s (now (dir .entry)) (now (slots .entry)) (now (arena .entry)) (now (out .entry)) at r (now (dir .exit)) (now (slots .exit)) (now (arena .entry)) (now (out .exit)) ⌝ }
+    ensures { λ r. ⌜ RepliedBy (λ z. newTurn z (n .fanout) (n .pool) (n .arena)) (λ _. NewIdle (n .fanout) (n .pool) (n .arena)) s (now (dir .entry)) (now (slots .entry)) (now (arena .entry)) (now (out .entry)) at r (now (dir .exit)) (now (slots .exit)) (now (arena .entry)) (now (out .exit)) ⌝ }
 {
     if above_ceiling(n) {
         return Replied {
@@ -242,7 +242,7 @@ fn reply_open(
     at: usize,
 ) -> Replied
     requires { ⌜ OpenAsked s (now dir) (now slots) (now arena) line (now key) (now value) (now old) (now out) at ⌝ }
-    ensures { λ r. ⌜ RepliedBy (λ z. lineTurn z (toldCommand line (now (key .entry)) (now (value .entry)))) s (now (dir .entry)) (now (slots .entry)) (now (arena .entry)) (now (out .entry)) at r (now (dir .exit)) (now (slots .exit)) (now (arena .exit)) (now (out .exit)) ⌝ }
+    ensures { λ r. ⌜ RepliedBy (λ z. lineTurn z (toldCommand line (now (key .entry)) (now (value .entry)))) (λ z. Idle z (toldCommand line (now (key .entry)) (now (value .entry)))) s (now (dir .entry)) (now (slots .entry)) (now (arena .entry)) (now (out .entry)) at r (now (dir .exit)) (now (slots .exit)) (now (arena .exit)) (now (out .exit)) ⌝ }
 {
     let pool = s.pool;
     let words = s.header.fanout * pool;

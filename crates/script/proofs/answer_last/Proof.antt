@@ -1,13 +1,16 @@
 -- `answer_last` meets its contract.
 -- Assumes nothing.
 use Rattle.feed.specs.FeedLaws.{keeps-fits}
-use Rattle.script.specs.ScriptLaws.{last-line, last-none, ready-reply, reply-fits}
+use Rattle.script.specs.ScriptLaws.{last-failed, last-line, last-none, ready-reply, reply-due, reply-fits}
 use borrow.Author.Needs.{needs}
 use Rattle.script.proofs.answer_last.Statement.{statement}
 use Rattle.script.proofs.answer_last.Tie as tie
 
 returns : tie.Need-returns
-returns c = last-none _ _ _ _ _ _ (c .if1 .taken)
+returns c = last-failed _ _ _ _ _ _ (c .if1 .taken)
+
+returns-2 : tie.Need-returns-2
+returns-2 c = last-none _ _ _ _ _ _ (c .if2 .taken)
 
 sub-reply : tie.Need-sub-reply
 sub-reply c = search needs
@@ -16,22 +19,22 @@ part-reply-start : tie.Need-part-reply-start
 part-reply-start c = search needs
 
 part-reply-end : tie.Need-part-reply-end
-part-reply-end c = keeps-fits (c .before .before .before .before .before .before .before .before .before .before .before .before .before .pre .keeps)
+part-reply-end c = keeps-fits (c .before .before .before .before .before .before .before .before .before .before .before .before .before .before .pre .keeps)
 
 reply-requires : tie.Need-reply-requires
-reply-requires c κs = ready-reply (c .before .before .before .before .before .before .before .before .before .before .before .before .before .before .before .before .before .before .pre)
+reply-requires c κs = ready-reply (c .before .before .before .before .before .before .before .before .before .before .before .before .before .before .before .before .before .before .before .pre)
 
-sub-write-all : tie.Need-sub-write-all
-sub-write-all c = search needs
+sub-write-text : tie.Need-sub-write-text
+sub-write-text c = search needs
 
-part-write-all-start : tie.Need-part-write-all-start
-part-write-all-start c = search needs
+part-write-text-start : tie.Need-part-write-text-start
+part-write-text-start c = search needs
 
-part-write-all-end : tie.Need-part-write-all-end
-part-write-all-end c = reply-fits (c .before .before .before .before .before .before .before .before .before .before .before .before .before .before .before .before .before .before .before .before .before .before .before .before .before .before .before .before .before .before .before .before .before .before .pre) (c .before .before .before .before .before .before .before .before .before .before .before .before .before .before .before .reply .ensures)
+part-write-text-end : tie.Need-part-write-text-end
+part-write-text-end c = reply-fits (c .before .before .before .before .before .before .before .before .before .before .before .before .before .before .before .before .before .before .before .before .before .before .before .before .before .before .before .before .before .before .before .before .before .before .before .pre) (c .before .before .before .before .before .before .before .before .before .before .before .before .before .before .before .reply .ensures)
 
-write-all-requires : tie.Need-write-all-requires
-write-all-requires c κs = search needs
+write-text-requires : tie.Need-write-text-requires
+write-text-requires c κs = reply-due (c .before .before .before .before .before .before .before .before .before .before .before .before .before .before .before .before .before .before .before .before .before .before .before .before .before .before .before .before .before .before .before .before .before .before .before .before .pre) (c .before .before .before .before .before .before .before .before .before .before .before .before .before .before .before .before .reply .ensures)
 
 same-length : tie.Need-same-length
 same-length c = search needs
@@ -54,22 +57,23 @@ same-length-6 c = search needs
 same-length-7 : tie.Need-same-length-7
 same-length-7 c = search needs
 
-returns-2 : tie.Need-returns-2
-returns-2 c = last-line (c .before .before .before .before .before .before .before .before .before .before .before .before .before .before .before .before .before .before .before .before .before .before .before .before .before .before .before .before .before .before .before .before .before .before .before .before .pre) (c .before .before .before .before .before .before .before .before .before .before .before .before .before .before .before .before .before .before .before .before .before .before .before .before .before .before .before .if1 .left) (c .before .before .before .before .before .before .before .before .before .before .before .before .before .before .before .before .before .reply .ensures)
+returns-3 : tie.Need-returns-3
+returns-3 c = last-line (c .before .before .before .before .before .before .before .before .before .before .before .before .before .before .before .before .before .before .before .before .before .before .before .before .before .before .before .before .before .before .before .before .before .before .before .before .before .pre) (c .before .before .before .before .before .before .before .before .before .before .before .before .before .before .before .before .before .before .before .before .before .before .before .before .before .before .before .before .if1 .left) (c .before .before .before .before .before .before .before .before .before .before .before .before .before .before .before .before .before .before .before .before .before .before .before .before .before .before .before .if2 .left) (c .before .before .before .before .before .before .before .before .before .before .before .before .before .before .before .before .before .reply .ensures)
 
 pub answer-last-spec : {M : Type 1} → statement M
 answer-last-spec =
     tie.close
     (tie.spec
     returns
+    returns-2
     sub-reply
     part-reply-start
     part-reply-end
     reply-requires
-    sub-write-all
-    part-write-all-start
-    part-write-all-end
-    write-all-requires
+    sub-write-text
+    part-write-text-start
+    part-write-text-end
+    write-text-requires
     same-length
     same-length-2
     same-length-3
@@ -77,4 +81,4 @@ answer-last-spec =
     same-length-5
     same-length-6
     same-length-7
-    returns-2)
+    returns-3)

@@ -4,8 +4,6 @@ use Rattle.session.specs.ServeLaws.{above-arena, above-fanout, above-poo
 use native.Mathlib.Omega.{arith}
 use Rattle.session.proofs.above_ceiling.Statement.{statement}
 use Rattle.session.proofs.above_ceiling.Tie as tie
-use Rattle.session.proofs.above_ceiling.Reads as reads
-use Rattle.session.proofs.above_ceiling.Lts as lts
 
 returns : tie.Need-returns
 returns c = above-fanout (c .before .before .args .n .fanout) (c .before .before .args .n .pool) (c .before .before .args .n .arena) (omega arith)

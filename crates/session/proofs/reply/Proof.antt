@@ -7,12 +7,6 @@ use Rattle.session.specs.LineLaws.{closed-line, new-line, reply-bad-aske
 use borrow.Author.Needs.{needs}
 use Rattle.session.proofs.reply.Statement.{statement}
 use Rattle.session.proofs.reply.Tie as tie
-use Rattle.session.proofs.reply.Reads as reads
-use Rattle.session.proofs.reply.Lts as lts
-use Rattle.answers.proofs.write_bad.Reads as write-bad-reads
-use Rattle.lines.proofs.parse.Reads as parse-reads
-use Rattle.session.proofs.reply_open.Reads as reply-open-reads
-use Rattle.session.proofs.start_afresh.Reads as start-afresh-reads
 
 parse-requires : tie.Need-parse-requires
 parse-requires c κs = search needs

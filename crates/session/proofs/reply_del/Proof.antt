@@ -4,10 +4,6 @@ use Rattle.session.specs.ServeLaws.{del-asked, del-served}
 use borrow.Author.Needs.{needs}
 use Rattle.session.proofs.reply_del.Statement.{statement}
 use Rattle.session.proofs.reply_del.Tie as tie
-use Rattle.session.proofs.reply_del.Reads as reads
-use Rattle.session.proofs.reply_del.Lts as lts
-use Rattle.session.proofs.write_change.Reads as write-change-reads
-use Rattle.tree_remove.proofs.remove.Reads as remove-reads
 
 remove-requires : tie.Need-remove-requires
 remove-requires c κs = search needs

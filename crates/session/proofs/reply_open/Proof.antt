@@ -8,10 +8,6 @@ use native.Mathlib.Omega.{arith}
 use borrow.Author.Needs.{needs}
 use Rattle.session.proofs.reply_open.Statement.{statement}
 use Rattle.session.proofs.reply_open.Tie as tie
-use Rattle.session.proofs.reply_open.Reads as reads
-use Rattle.session.proofs.reply_open.Lts as lts
-use Rattle.session.proofs.opened.Reads as opened-reads
-use Rattle.session.proofs.serve.Reads as serve-reads
 
 mul-words : tie.Need-mul-words
 mul-words c = omega (arith, open-parts (c .before .before .before .before .before .before .before .before .pre) .words-most)

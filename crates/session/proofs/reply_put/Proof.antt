@@ -4,10 +4,6 @@ use Rattle.session.specs.ServeLaws.{put-asked, put-served}
 use borrow.Author.Needs.{needs}
 use Rattle.session.proofs.reply_put.Statement.{statement}
 use Rattle.session.proofs.reply_put.Tie as tie
-use Rattle.session.proofs.reply_put.Reads as reads
-use Rattle.session.proofs.reply_put.Lts as lts
-use Rattle.session.proofs.write_change.Reads as write-change-reads
-use Rattle.tree_insert.proofs.insert.Reads as insert-reads
 
 insert-requires : tie.Need-insert-requires
 insert-requires c κs = search needs

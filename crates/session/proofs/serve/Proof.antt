@@ -9,14 +9,6 @@ use Rattle.session.specs.ServeLaws.{bad-asked, bad-served, del-within, g
 use borrow.Author.Needs.{needs}
 use Rattle.session.proofs.serve.Statement.{statement}
 use Rattle.session.proofs.serve.Tie as tie
-use Rattle.session.proofs.serve.Reads as reads
-use Rattle.session.proofs.serve.Lts as lts
-use Rattle.answers.proofs.write_bad.Reads as write-bad-reads
-use Rattle.replies.proofs.reply_get.Reads as reply-get-reads
-use Rattle.replies.proofs.reply_leaves.Reads as reply-leaves-reads
-use Rattle.replies.proofs.reply_next.Reads as reply-next-reads
-use Rattle.session.proofs.reply_del.Reads as reply-del-reads
-use Rattle.session.proofs.reply_put.Reads as reply-put-reads
 
 enum-known-line : tie.Need-enum-known-line
 enum-known-line c = search needs
@@ -46,7 +38,7 @@ slice-aggregate-reply-next : tie.Need-slice-aggregate-reply-next
 slice-aggregate-reply-next c = sym (length-take-le _ _ (next-within (c .before .before .before .before .before .before .before .before .before .before .before .before .before .before .pre) (c .before .before .before .before .before .line3 .given .1)))
 
 reply-next-requires : tie.Need-reply-next-requires
-reply-next-requires c κs = next-asked (c .before .before .before .before .before .before .before .before .before .before .before .before .before .before .before .before .pre .asked) _
+reply-next-requires c κs = next-asked (c .before .before .before .before .before .before .before .before .before .before .before .before .before .before .before .before .pre .asked) (take (c .before .before .before .before .before .before .before .line3 .given .0 .0) (c .before .before .before .before .before .before .before .before .before .before .before .before .before .before .before .before .args .key .now))
 
 enum-told : tie.Need-enum-told
 enum-told c = search needs

@@ -8,12 +8,6 @@ use native.Mathlib.Omega.{arith}
 use borrow.Author.Needs.{needs}
 use Rattle.session.proofs.start_afresh.Statement.{statement}
 use Rattle.session.proofs.start_afresh.Tie as tie
-use Rattle.session.proofs.start_afresh.Reads as reads
-use Rattle.session.proofs.start_afresh.Lts as lts
-use Rattle.replies.proofs.refuse.Reads as refuse-reads
-use Rattle.replies.proofs.reply_new.Reads as reply-new-reads
-use Rattle.session.proofs.above_ceiling.Reads as above-ceiling-reads
-use Rattle.session.proofs.opened.Reads as opened-reads
 
 above-ceiling-requires : tie.Need-above-ceiling-requires
 above-ceiling-requires c κs = search needs

@@ -7,11 +7,6 @@ use Rattle.session.specs.ServeLaws.{old-room, old-wrote, value-within}
 use borrow.Author.Needs.{needs}
 use Rattle.session.proofs.write_change.Statement.{statement}
 use Rattle.session.proofs.write_change.Tie as tie
-use Rattle.session.proofs.write_change.Reads as reads
-use Rattle.session.proofs.write_change.Lts as lts
-use Rattle.answers.proofs.write_none.Reads as write-none-reads
-use Rattle.answers.proofs.write_old.Reads as write-old-reads
-use Rattle.replies.proofs.refuse.Reads as refuse-reads
 
 enum-known-x : tie.Need-enum-known-x
 enum-known-x c = search needs
