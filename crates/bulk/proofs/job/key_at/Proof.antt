@@ -1,0 +1,60 @@
+-- `key_at` gives a number below n: a remainder is below its divisor.
+-- Assumes nothing.
+use native.Mathlib.Nat.{mod-lt}
+use native.Mathlib.Omega.{arith}
+use borrow.Author.Needs.{needs}
+use Rattle.bulk.proofs.job.key_at.Statement.{statement}
+use Rattle.bulk.proofs.job.key_at.Tie as tie
+
+enum-told : tie.Need-enum-told
+enum-told c = search needs
+
+enum-told-2 : tie.Need-enum-told-2
+enum-told-2 c = search needs
+
+sub-result : tie.Need-sub-result
+sub-result c = search needs
+
+sub-result-2 : tie.Need-sub-result-2
+sub-result-2 c = search needs
+
+enum-told-3 : tie.Need-enum-told-3
+enum-told-3 c = search needs
+
+mul-result : tie.Need-mul-result
+mul-result c = search needs
+
+rem-result : tie.Need-rem-result
+rem-result c = search needs
+
+enum-told-4 : tie.Need-enum-told-4
+enum-told-4 c = search needs
+
+returns : tie.Need-returns
+returns c = search needs
+
+returns-2 : tie.Need-returns-2
+returns-2 c = search needs
+
+returns-3 : tie.Need-returns-3
+returns-3 c = mod-lt _ (omega arith)
+
+returns-4 : tie.Need-returns-4
+returns-4 c = search needs
+
+pub key-at-spec : {M : Type 1} → statement M
+key-at-spec =
+    tie.close
+    (tie.spec
+    enum-told
+    enum-told-2
+    sub-result
+    sub-result-2
+    enum-told-3
+    mul-result
+    rem-result
+    enum-told-4
+    returns
+    returns-2
+    returns-3
+    returns-4)

@@ -1,0 +1,2 @@
+pub mod Bulk
+pub mod BulkLaws
