@@ -1,5 +1,5 @@
--- The room that each call needs in the arena is there, where the charge is within the arena's length: for a new pair and a separator, for a
--- longer value once the old pair is out, and for the bytes that a merge regains.
+-- A replacement splits no leaf, and meets no refusal for want of a leaf, nor one for want of room where its value is not longer; and where
+-- the charge is within the arena's length, there is room for the bytes that a merge regains.
 -- Assumes nothing.
 use Prim.Native.Nat.{_*_, _+_, _<_, _≤_, ℕ}
 use mathlib.Core.Bool.{false}
@@ -9,7 +9,7 @@ use mathlib.Core.Path.{_≡_, refl}
 use native.Mathlib.Omega.{arith}
 use borrow.Author.Tests.{le-ltb, ne-eqb}
 use lib.ListN.{length}
-use Rattle.model.specs.Answers.{noLeaf, noRoom, sizeOf}
+use Rattle.model.specs.Answers.{noLeaf, noRoom}
 use Rattle.model.specs.Charge.{charge, stored}
 use Rattle.model.specs.Good.{Bounds, Tiled, Tiles}
 use Rattle.model.specs.LeafViews.{on, side, stay}
@@ -17,28 +17,10 @@ use Rattle.model.specs.Leaves.{Node, owned}
 use Rattle.model.specs.Map.{lookup, put}
 use Rattle.model.specs.MapParts.{length-put}
 use Rattle.model.specs.OwnerLaws.{tiles-first}
-use Rattle.model.specs.Rules.{insertRule, mergeFrom, removeRule}
-use Rattle.model.specs.SizeLaws.{uncut, cuts, cutting, insert-charge, insertCut, remove-charge}
+use Rattle.model.specs.Rules.{insertRule, mergeFrom}
+use Rattle.model.specs.SizeLaws.{uncut, cuts, cutting, insert-charge, insertCut}
 use Rattle.model.specs.StoredLaws.{charge-ahead, merge-stored-behind, regained, stored-charge}
 use Rattle.order.specs.Bytes.{Bytes}
-
--- an absent key: the arena has room for the separator, if the leaf is split, and for the new pair
-pub insert-room : {B : Bounds} (F arena : ℕ) (k v : Bytes) (ns : List Node) → Tiles B ns → lookup k (owned k ns) ≡ none
-    → charge (insertRule F k v ns) ≤ arena → stored ns + sizeOf (insertCut F k v ns) + length k + length v ≤ arena
-insert-room F arena k v [] t e h = absurd (let z : _≡_ {A = ℕ} 0 1 = cc (t .starts) in omega arith)
-insert-room F arena k v (n ∷ ns) t e h = omega (arith, rw e at (insert-charge F k v n ns), stored-charge (n ∷ ns))
-
--- a present key: with the old pair out, not merging, there is room for the new one
-pub replace-room : {B : Bounds} (F arena : ℕ) (k v old : Bytes) (ns : List Node) → Tiles B ns → lookup k (owned k ns) ≡ some old
-    → charge (insertRule F k v ns) ≤ arena → stored (removeRule false k ns) + length k + length v ≤ arena
-replace-room F arena k v old [] t e h = absurd (let z : _≡_ {A = ℕ} 0 1 = cc (t .starts) in omega arith)
-replace-room F arena k v old (n ∷ ns) t e h =
-    omega (
-      arith,
-      rw e at (insert-charge F k v n ns),
-      rw e at (remove-charge false k n ns),
-      stored-charge (removeRule false k (n ∷ ns)),
-    )
 
 -- the owner has room for one pair more (L3)
 pub owned-room : {B : Bounds} (k : Bytes) (ns : List Node) → Tiles B ns → length (owned k ns) < B .fanout

@@ -1,8 +1,8 @@
-// Elements moved inside one lent buffer, a slice copied into a part of one, and a number added to or taken from a range of words: bytes of
-// the arena, words of the slot buffer (u64), entries of the directory (u32). Each contract gives the whole buffer at exit.
+// Elements moved inside one lent buffer: bytes of the arena, words of the slot buffer (u64), entries of the directory (u32); bytes copied into
+// a part of one, and a number added to a range of words. Each contract gives the whole buffer at exit.
 ghost use mathlib.Core.Path.{_≡_};
 ghost use mathlib.Core.List.{map};
-ghost use Prim.Native.Nat.{ℕ, _+_, _-_, _^_, _≤_, _<_};
+ghost use Prim.Native.Nat.{ℕ, _+_, _^_, _≤_, _<_};
 ghost use lib.ListN.{length, getD};
 ghost use Rattle.lists.specs.Part.{part, put};
 
@@ -90,18 +90,6 @@ pub fn move_words(a: &mut [u64], from: usize, n: usize, to: usize)
     }
 }
 
-// s written over the words from `to` on.
-pub fn copy_words(a: &mut [u64], to: usize, s: &[u64])
-    requires { ⌜ to + length (now s) ≤ length (now a) ⌝ }
-    ensures { λ _. ⌜ now (a .exit) ≡ put (now (a .entry)) to (now (s .entry)) ⌝ }
-{
-    let mut i = 0;
-    while i < s.len() {
-        a[to + i] = s[i];
-        i += 1;
-    }
-}
-
 // The n entries from `from` on, also at `to`; from the back, for the two places may overlap.
 fn entries_up(a: &mut [u32], from: usize, n: usize, to: usize)
     requires { ⌜ (from ≤ to) × (to + n ≤ length (now a)) ⌝ }
@@ -138,18 +126,6 @@ pub fn move_entries(a: &mut [u32], from: usize, n: usize, to: usize)
     }
 }
 
-// s written over the entries from `to` on.
-pub fn copy_entries(a: &mut [u32], to: usize, s: &[u32])
-    requires { ⌜ to + length (now s) ≤ length (now a) ⌝ }
-    ensures { λ _. ⌜ now (a .exit) ≡ put (now (a .entry)) to (now (s .entry)) ⌝ }
-{
-    let mut i = 0;
-    while i < s.len() {
-        a[to + i] = s[i];
-        i += 1;
-    }
-}
-
 // k added to each of the n words from `from` on.
 pub fn raise(a: &mut [u64], from: usize, n: usize, k: u64)
     requires { ⌜ (from + n ≤ length (now a)) × ((j : ℕ) → from ≤ j → j < from + n → getD (now a) j 0 + k < 2 ^ 64) ⌝ }
@@ -158,18 +134,6 @@ pub fn raise(a: &mut [u64], from: usize, n: usize, k: u64)
     let mut i = 0;
     while i < n {
         a[from + i] = a[from + i] + k;
-        i += 1;
-    }
-}
-
-// k taken from each of the n words from `from` on.
-pub fn lower(a: &mut [u64], from: usize, n: usize, k: u64)
-    requires { ⌜ (from + n ≤ length (now a)) × ((j : ℕ) → from ≤ j → j < from + n → k ≤ getD (now a) j 0) ⌝ }
-    ensures { λ _. ⌜ now (a .exit) ≡ put (now (a .entry)) from (map (λ (x : ℕ). x - k) (part (now (a .entry)) from n)) ⌝ }
-{
-    let mut i = 0;
-    while i < n {
-        a[from + i] = a[from + i] - k;
         i += 1;
     }
 }
