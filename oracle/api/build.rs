@@ -11,6 +11,8 @@ use std::{env, fs};
 
 /// Where `rt` puts it.
 const DEFAULT: &str = "../../target/staticlib";
+/// What C programs include. The toolchain's compiler has no headers of its own.
+const HEADERS: &str = "../../clients/c";
 
 fn main() {
     let target = env::var("CARGO_CFG_TARGET_ARCH").expect("cargo sets it");
@@ -43,6 +45,7 @@ fn link(archive: &Path) -> Result<(), String> {
 
 fn link_far(archive: &Path, machine: &str) -> Result<(), String> {
     println!("cargo::rerun-if-changed=far/far.c");
+    println!("cargo::rerun-if-changed={HEADERS}");
     let own = toolchain(machine)?;
     let tools = own.join("toolchain");
     let out = PathBuf::from(env::var_os("OUT_DIR").expect("cargo sets it"));
@@ -58,6 +61,7 @@ fn link_far(archive: &Path, machine: &str) -> Result<(), String> {
             "-target",
             target,
         ])
+        .args([format!("-I{HEADERS}"), format!("-I{HEADERS}/bare")])
         .args(["far/far.c", "-o"])
         .arg(&object))?;
     run(Command::new(own.join("bin/rattle-link"))

@@ -1,7 +1,8 @@
 //! The same calls on a machine that the archive isn't for: `far/far.c` makes
 //! them under the toolchain's emulator.
 
-use crate::exports::{OldReply, Place, Reply, Scan, Shown, Span, Told};
+use crate::STACK;
+use crate::exports::{OldReply, Place, Reply, Scanned, Shown, Span, Told};
 use crate::reads::{Read, Reading};
 use crate::times::{Changes, KEY, Series, VALUE};
 use crate::writes::Write;
@@ -29,6 +30,8 @@ enum Call {
     Remove,
     TimeInserts,
     TimeRemoves,
+    #[cfg(test)]
+    UseStack,
 }
 
 struct Request<'a> {
@@ -63,14 +66,7 @@ pub fn holds_index(header: Header, lent: &Buffers) -> bool {
 }
 
 pub fn create(fanout: usize, lent: &mut Buffers) -> Reply {
-    let (leaves, pairs, charge) = (0, 0, 0);
-    let header = Header {
-        fanout,
-        leaves,
-        pairs,
-        charge,
-    };
-    reply(change_by(Call::Create, header, lent))
+    reply(change_by(Call::Create, counts([fanout, 0, 0, 0]), lent))
 }
 
 pub fn clear(header: Header, lent: &mut Buffers) -> Reply {
@@ -101,15 +97,9 @@ pub fn time_changes(
     };
     let words = change(call, header, lent, [KEY, VALUE], keys, out);
     let [count, fanout, leaves, pairs, charge, calls, tests, ..] = words;
-    let header = Header {
-        fanout,
-        leaves,
-        pairs,
-        charge,
-    };
     Series {
         count,
-        header,
+        header: counts([fanout, leaves, pairs, charge]),
         calls: Duration::from_nanos(calls as u64),
         tests: Duration::from_nanos(tests as u64),
     }
@@ -120,7 +110,7 @@ pub fn read(read: Read, header: Header, lent: &Buffers, out: &mut [u8]) -> Readi
     match read {
         Read::ContainsKey(_) => Reading::Told(told(words)),
         Read::Get(_) => Reading::Place(place(words)),
-        Read::FirstInRange(..) | Read::GetGt(_) | Read::First => Reading::Scan(scan(words)),
+        Read::FirstInRange(..) | Read::GetGt(_) | Read::First => Reading::Scanned(scanned(words)),
         Read::ScanPrefix(_) => Reading::Span(span(words)),
         Read::LeafAt(_) => Reading::Shown(shown(words)),
     }
@@ -267,7 +257,9 @@ impl<'a> Request<'a> {
 impl Far {
     fn start() -> Far {
         let (tools, program) = (env!("FAR_TOOLS"), env!("FAR_PROGRAM"));
+        // The emulator gives no heed to a lower limit that it is started with.
         let mut child = Command::new(format!("{tools}/bin/qemu-x86_64"))
+            .args(["-s", &STACK.to_string()])
             .arg(format!("{tools}/lib/ld-linux-x86-64.so.2"))
             .arg("--library-path")
             .arg(format!("{tools}/lib"))
@@ -305,33 +297,30 @@ fn told([refusal, length, ..]: [usize; 9]) -> Told {
     Told { refusal, length }
 }
 
-fn reply([refusal, length, fanout, leaves, pairs, charge, ..]: [usize; 9]) -> Reply {
-    let header = Header {
+fn counts([fanout, leaves, pairs, charge]: [usize; 4]) -> Header {
+    Header {
         fanout,
         leaves,
         pairs,
         charge,
-    };
+    }
+}
+
+fn reply([refusal, length, fanout, leaves, pairs, charge, ..]: [usize; 9]) -> Reply {
     Reply {
         refusal,
         length,
-        header,
+        header: counts([fanout, leaves, pairs, charge]),
     }
 }
 
 fn old_reply(words: [usize; 9]) -> OldReply {
     let [refusal, length, found, fanout, leaves, pairs, charge, ..] = words;
-    let header = Header {
-        fanout,
-        leaves,
-        pairs,
-        charge,
-    };
     OldReply {
         refusal,
         length,
         found,
-        header,
+        header: counts([fanout, leaves, pairs, charge]),
     }
 }
 
@@ -344,8 +333,8 @@ fn place([refusal, found, offset, length, ..]: [usize; 9]) -> Place {
     }
 }
 
-fn scan([refusal, length, found, key, offset, value, ..]: [usize; 9]) -> Scan {
-    Scan {
+fn scanned([refusal, length, found, key, offset, value, ..]: [usize; 9]) -> Scanned {
+    Scanned {
         refusal,
         length,
         found,
@@ -388,4 +377,19 @@ fn shown(words: [usize; 9]) -> Shown {
         prefix_length,
         pairs,
     }
+}
+
+/// The calls' stack is as small as is said, and what needs more ends the program.
+#[test]
+fn small_stack() {
+    let touch = |bytes| {
+        let (header, lent) = crate::reads::no_index();
+        let request = Request {
+            numbers: [bytes, 0],
+            ..Request::of(Call::UseStack, header, &lent)
+        };
+        request.answer(&mut []).words[0]
+    };
+    assert_eq!(touch(STACK / 2), STACK / 2);
+    assert!(std::panic::catch_unwind(|| touch(STACK)).is_err());
 }

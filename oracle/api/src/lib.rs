@@ -3,10 +3,18 @@
 
 #![deny(unsafe_code)]
 
+// Where `exports` finds `Header`.
+use reference::buffers;
+
+/// Bytes of stack that a call has.
+pub const STACK: usize = 256 * 1_024;
+
 pub mod cases;
 pub mod compare;
 pub mod creations;
 pub mod damages;
+#[allow(unsafe_code)]
+#[path = "../../../clients/olybzhan/src/ffi.rs"]
 pub mod exports;
 #[cfg(not(target_arch = "x86_64"))]
 mod far;

@@ -1,20 +1,21 @@
 //! `api [--seeds A-B] [--damages N] [--reads N] [--inserts N] [--mixed N]
-//! [--grown N]`: runs the archive's functions beside the reference. The last line
-//! counts what was compared; status 1 where something differs.
+//! [--grown N] [--jobs N]`: runs the archive's functions beside the reference. The
+//! last line counts what was compared; status 1 where something differs.
 
 #![forbid(unsafe_code)]
 
+use api::STACK;
 use api::sides::Archive;
 use api::tally::Tally;
 use api::{cases, creations, damages, fresh, reading, times, writing};
 use std::env;
 use std::ops::RangeInclusive;
 use std::process::ExitCode;
-use std::thread;
+use std::thread::{self, Scope, ScopedJoinHandle};
 use std::time::Duration;
 
-const USAGE: &str =
-    "api [--seeds A-B] [--damages N] [--reads N] [--inserts N] [--mixed N] [--grown N]";
+const USAGE: &str = "api [--seeds A-B] [--damages N] [--reads N] [--inserts N] [--mixed N] \
+    [--grown N] [--jobs N]";
 /// `len` and `clear` run on this part of the number of damages.
 const FRESH_PART: usize = 10;
 /// These run on such parts of the number of indexes read, for they ask more of
@@ -42,18 +43,30 @@ struct Plan {
     mixed: usize,
     /// Pairs of the index that timed inserts grow, and timed removes empty.
     grown: usize,
+    /// At the same time.
+    jobs: usize,
 }
 
 fn main() -> ExitCode {
     let arguments: Vec<String> = env::args().skip(1).collect();
-    match plan(&arguments) {
-        Some(plan) if run(&plan) => ExitCode::SUCCESS,
-        Some(_) => ExitCode::FAILURE,
-        None => {
-            eprintln!("{USAGE}");
-            ExitCode::FAILURE
-        }
+    let Some(plan) = plan(&arguments) else {
+        eprintln!("{USAGE}");
+        return ExitCode::FAILURE;
+    };
+    let same = thread::scope(|scope| on_small_stack(scope, || run(&plan)).join());
+    match same {
+        Ok(true) => ExitCode::SUCCESS,
+        _ => ExitCode::FAILURE,
     }
+}
+
+/// So that a call of the archive has no more than this on its own machine too.
+fn on_small_stack<'scope, T: Send + 'scope>(
+    scope: &'scope Scope<'scope, '_>,
+    work: impl FnOnce() -> T + Send + 'scope,
+) -> ScopedJoinHandle<'scope, T> {
+    let thread = thread::Builder::new().stack_size(STACK);
+    thread.spawn_scoped(scope, work).expect("a thread starts")
 }
 
 fn plan(arguments: &[String]) -> Option<Plan> {
@@ -64,6 +77,7 @@ fn plan(arguments: &[String]) -> Option<Plan> {
         inserts: 100_000,
         mixed: 100_000,
         grown: 2_000,
+        jobs: thread::available_parallelism().map_or(1, usize::from),
     };
     let mut words = arguments.iter();
     while let Some(word) = words.next() {
@@ -78,14 +92,18 @@ fn plan(arguments: &[String]) -> Option<Plan> {
             "--inserts" => plan.inserts = value.parse().ok()?,
             "--mixed" => plan.mixed = value.parse().ok()?,
             "--grown" => plan.grown = value.parse().ok()?,
+            "--jobs" => plan.jobs = value.parse().ok()?,
             _ => return None,
         }
     }
-    (!plan.seeds.is_empty()).then_some(plan)
+    (!plan.seeds.is_empty() && plan.jobs > 0).then_some(plan)
 }
 
 fn run(plan: &Plan) -> bool {
-    let mut all = All::default();
+    let mut all = All {
+        jobs: plan.jobs,
+        ..All::default()
+    };
     changes_and_tests(plan, &mut all);
     reads(plan, &mut all);
     writes(plan, &mut all);
@@ -94,7 +112,10 @@ fn run(plan: &Plan) -> bool {
         print_times(*plan.seeds.start());
         print_changes(plan.grown, *plan.seeds.start());
     }
-    println!("{} calls, {} differences", all.calls, all.differences);
+    println!(
+        "{} calls, {} of them on damaged buffers, {} differences",
+        all.calls, all.damaged, all.differences
+    );
     all.differences == 0
 }
 
@@ -219,14 +240,13 @@ const EMULATED: &str = if cfg!(target_arch = "x86_64") {
     " under the emulator"
 };
 
-/// What each seed gives, the seeds shared out among the cores.
-fn on_all_cores<T: Send>(seeds: Vec<u64>, run: &(impl Fn(u64) -> T + Sync)) -> Vec<T> {
-    let cores = thread::available_parallelism().map_or(1, usize::from);
+/// What each seed gives, the seeds shared out among the jobs.
+fn of_each<T: Send>(seeds: Vec<u64>, jobs: usize, run: &(impl Fn(u64) -> T + Sync)) -> Vec<T> {
     thread::scope(|scope| {
-        let shares = seeds.chunks(seeds.len().div_ceil(cores));
+        let shares = seeds.chunks(seeds.len().div_ceil(jobs));
         let work = |share: &[u64]| share.iter().map(|seed| run(*seed)).collect::<Vec<T>>();
         let threads: Vec<_> = shares
-            .map(|share| scope.spawn(move || work(share)))
+            .map(|share| on_small_stack(scope, move || work(share)))
             .collect();
         let given = threads.into_iter().map(|thread| thread.join());
         given.flat_map(|given| given.expect("no panic")).collect()
@@ -235,7 +255,9 @@ fn on_all_cores<T: Send>(seeds: Vec<u64>, run: &(impl Fn(u64) -> T + Sync)) -> V
 
 #[derive(Default)]
 struct All {
+    jobs: usize,
     calls: usize,
+    damaged: usize,
     differences: usize,
 }
 
@@ -248,7 +270,7 @@ impl All {
         run: impl Fn(u64) -> Result<Tally, String> + Sync,
     ) {
         let mut sum = Tally::default();
-        for result in on_all_cores(seeds.collect(), &run) {
+        for result in of_each(seeds.collect(), self.jobs, &run) {
             match result {
                 Ok(tally) => sum.join(&tally),
                 Err(report) => {
@@ -259,5 +281,6 @@ impl All {
         }
         println!("{name}: {sum}");
         self.calls += sum.calls();
+        self.damaged += sum.damaged();
     }
 }

@@ -10,186 +10,165 @@ use crate::times::{Changes, Series};
 use crate::writes::Write;
 use reference::buffers::{Buffers, Header};
 use std::hint::black_box;
+use std::sync::atomic::{AtomicUsize, Ordering};
 use std::time::{Duration, Instant};
 
 // Safe: none of the functions requires anything of its caller but slices, and
 // each slice here is a live one with its own length.
 
 pub fn holds_index(header: Header, lent: &Buffers) -> bool {
-    let Buffers { dir, slots, arena } = lent;
-    unsafe {
-        olybzhan_holds_index_by_value(
-            header,
-            dir.as_ptr(),
-            dir.len(),
-            slots.as_ptr(),
-            slots.len(),
-            arena.as_ptr(),
-            arena.len(),
-        )
-    }
+    read!(olybzhan_holds_index_by_value, header, parts(lent))
 }
 
 pub fn create(fanout: usize, lent: &mut Buffers) -> Reply {
-    let Buffers { dir, slots, arena } = lent;
-    unsafe {
-        olybzhan_create_by_value(
-            fanout,
-            dir.as_mut_ptr(),
-            dir.len(),
-            slots.as_mut_ptr(),
-            slots.len(),
-            arena.as_ptr(),
-            arena.len(),
-        )
-    }
+    change!(olybzhan_create_by_value, fanout, parts_mut(lent), as_ptr)
 }
 
-pub fn clear(header: Header, lent: &mut Buffers) -> Reply {
-    let Buffers { dir, slots, arena } = lent;
-    unsafe {
-        olybzhan_clear_by_value(
-            header,
-            dir.as_mut_ptr(),
-            dir.len(),
-            slots.as_mut_ptr(),
-            slots.len(),
-            arena.as_ptr(),
-            arena.len(),
-        )
+pub fn clear(mut header: Header, lent: &mut Buffers) -> Reply {
+    if !in_place() {
+        return change!(olybzhan_clear_by_value, header, parts_mut(lent), as_ptr);
+    }
+    let told = change!(olybzhan_clear, &mut header, parts_mut(lent), as_ptr);
+    Reply {
+        refusal: told.refusal,
+        length: told.length,
+        header,
     }
 }
 
 pub fn len(header: Header, lent: &Buffers) -> Told {
-    let Buffers { dir, slots, arena } = lent;
-    unsafe {
-        olybzhan_len_by_value(
-            header,
-            dir.as_ptr(),
-            dir.len(),
-            slots.as_ptr(),
-            slots.len(),
-            arena.as_ptr(),
-            arena.len(),
-        )
-    }
+    read!(olybzhan_len_by_value, header, parts(lent))
+}
+
+fn parts(lent: &Buffers) -> (&[u32], &[u64], &[u8]) {
+    (&lent.dir, &lent.slots, &lent.arena)
+}
+
+fn parts_mut(lent: &mut Buffers) -> (&mut [u32], &mut [u64], &mut [u8]) {
+    (&mut lent.dir, &mut lent.slots, &mut lent.arena)
+}
+
+/// Whether the next changing call lends its header: every other one does.
+fn in_place() -> bool {
+    static CALLS: AtomicUsize = AtomicUsize::new(0);
+    CALLS.fetch_add(1, Ordering::Relaxed) % 2 == 1
 }
 
 pub fn write(write: Write, header: Header, lent: &mut Buffers, out: &mut [u8]) -> OldReply {
-    let Buffers { dir, slots, arena } = lent;
-    match write {
-        Write::Insert(key, value) => unsafe {
-            olybzhan_insert_by_value(
-                header,
-                dir.as_mut_ptr(),
-                dir.len(),
-                slots.as_mut_ptr(),
-                slots.len(),
-                arena.as_mut_ptr(),
-                arena.len(),
-                key.as_ptr(),
-                key.len(),
-                value.as_ptr(),
-                value.len(),
-                out.as_mut_ptr(),
-                out.len(),
-            )
-        },
-        Write::Remove(key) => unsafe {
-            olybzhan_remove_by_value(
-                header,
-                dir.as_mut_ptr(),
-                dir.len(),
-                slots.as_mut_ptr(),
-                slots.len(),
-                arena.as_mut_ptr(),
-                arena.len(),
-                key.as_ptr(),
-                key.len(),
-                out.as_mut_ptr(),
-                out.len(),
-            )
-        },
+    if in_place() {
+        write_in_place(write, header, lent, out)
+    } else {
+        write_by_value(write, header, lent, out)
     }
 }
 
+/// By the one or the other of two functions.
+macro_rules! insert_or_remove {
+    ($write:expr, $insert:ident, $remove:ident, $header:expr, $lent:expr, $out:expr) => {{
+        let (buffers, out, out_len) = (parts_mut($lent), $out.as_mut_ptr(), $out.len());
+        match $write {
+            Write::Insert(key, value) => {
+                let (key, key_len) = (key.as_ptr(), key.len());
+                let (value, value_len) = (value.as_ptr(), value.len());
+                change!(
+                    $insert, $header, buffers, as_mut_ptr, key, key_len, value, value_len, out,
+                    out_len
+                )
+            }
+            Write::Remove(key) => {
+                let (key, key_len) = (key.as_ptr(), key.len());
+                change!(
+                    $remove, $header, buffers, as_mut_ptr, key, key_len, out, out_len
+                )
+            }
+        }
+    }};
+}
+
+fn write_in_place(
+    write: Write,
+    mut header: Header,
+    lent: &mut Buffers,
+    out: &mut [u8],
+) -> OldReply {
+    let part = insert_or_remove!(
+        write,
+        olybzhan_insert,
+        olybzhan_remove,
+        &mut header,
+        lent,
+        out
+    );
+    OldReply {
+        refusal: part.refusal,
+        length: part.length,
+        found: part.found,
+        header,
+    }
+}
+
+fn write_by_value(write: Write, header: Header, lent: &mut Buffers, out: &mut [u8]) -> OldReply {
+    insert_or_remove!(
+        write,
+        olybzhan_insert_by_value,
+        olybzhan_remove_by_value,
+        header,
+        lent,
+        out
+    )
+}
+
 pub fn read(read: Read, header: Header, lent: &Buffers, out: &mut [u8]) -> Reading {
-    let (dir, dir_len) = (lent.dir.as_ptr(), lent.dir.len());
-    let (slots, slots_len) = (lent.slots.as_ptr(), lent.slots.len());
-    let (arena, arena_len) = (lent.arena.as_ptr(), lent.arena.len());
+    let buffers = parts(lent);
     let (out, out_len) = (out.as_mut_ptr(), out.len());
     match read {
-        Read::ContainsKey(key) => Reading::Told(unsafe {
-            olybzhan_contains_key_by_value(
-                header,
-                dir,
-                dir_len,
-                slots,
-                slots_len,
-                arena,
-                arena_len,
-                key.as_ptr(),
-                key.len(),
-            )
-        }),
-        Read::Get(key) => Reading::Place(unsafe {
-            olybzhan_get_by_value(
-                header,
-                dir,
-                dir_len,
-                slots,
-                slots_len,
-                arena,
-                arena_len,
-                key.as_ptr(),
-                key.len(),
-            )
-        }),
-        Read::FirstInRange([start_kind, end_kind], start, end) => Reading::Scan(unsafe {
-            olybzhan_first_in_range_by_value(
-                header,
-                dir,
-                dir_len,
-                slots,
-                slots_len,
-                arena,
-                arena_len,
-                start_kind,
-                end_kind,
-                start.as_ptr(),
-                start.len(),
-                end.as_ptr(),
-                end.len(),
-                out,
-                out_len,
-            )
-        }),
-        Read::GetGt(key) => Reading::Scan(unsafe {
-            olybzhan_get_gt_by_value(
-                header,
-                dir,
-                dir_len,
-                slots,
-                slots_len,
-                arena,
-                arena_len,
-                key.as_ptr(),
-                key.len(),
-                out,
-                out_len,
-            )
-        }),
-        Read::First => Reading::Scan(unsafe {
-            olybzhan_first_by_value(
-                header, dir, dir_len, slots, slots_len, arena, arena_len, out, out_len,
-            )
-        }),
+        Read::ContainsKey(key) => Reading::Told(read!(
+            olybzhan_contains_key_by_value,
+            header,
+            buffers,
+            key.as_ptr(),
+            key.len(),
+        )),
+        Read::Get(key) => Reading::Place(read!(
+            olybzhan_get_by_value,
+            header,
+            buffers,
+            key.as_ptr(),
+            key.len(),
+        )),
+        Read::FirstInRange([start_kind, end_kind], start, end) => Reading::Scanned(read!(
+            olybzhan_first_in_range_by_value,
+            header,
+            buffers,
+            start_kind,
+            end_kind,
+            start.as_ptr(),
+            start.len(),
+            end.as_ptr(),
+            end.len(),
+            out,
+            out_len,
+        )),
+        Read::GetGt(key) => Reading::Scanned(read!(
+            olybzhan_get_gt_by_value,
+            header,
+            buffers,
+            key.as_ptr(),
+            key.len(),
+            out,
+            out_len,
+        )),
+        Read::First => Reading::Scanned(read!(
+            olybzhan_first_by_value,
+            header,
+            buffers,
+            out,
+            out_len
+        )),
         Read::ScanPrefix(prefix) => Reading::Span(unsafe {
             olybzhan_scan_prefix(prefix.as_ptr(), prefix.len(), out, out_len)
         }),
-        Read::LeafAt(at) => Reading::Shown(unsafe {
-            olybzhan_leaf_at_by_value(header, dir, dir_len, slots, slots_len, arena, arena_len, at)
-        }),
+        Read::LeafAt(at) => Reading::Shown(read!(olybzhan_leaf_at_by_value, header, buffers, at)),
     }
 }
 
@@ -231,7 +210,7 @@ pub fn time_changes(
         let start = Instant::now();
         black_box(holds_index(header, lent));
         let tested = Instant::now();
-        let reply = write(changes.at(count), header, lent, out);
+        let reply = write_by_value(changes.at(count), header, lent, out);
         calls += tested.elapsed();
         tests += tested - start;
         if reply.refusal != 0 {

@@ -1,6 +1,6 @@
 //! The two sides of a reading call.
 
-use crate::exports::{EXCLUDED, INCLUDED, OPEN, Place, Scan, Shown, Span, Told};
+use crate::exports::{EXCLUDED, INCLUDED, OPEN, Place, Scanned, Shown, Span, Told};
 use crate::reads::{Read, Reader, Reading};
 use crate::sides::{Archive, Reference, archive, number};
 use reference::buffers::{Buffers, Header};
@@ -32,10 +32,10 @@ pub fn right(opened: &Result<Opened, Refusal>, read: Read, out: &mut [u8]) -> Re
         Read::FirstInRange([start_kind, end_kind], start, end) => {
             let range = Range::new(bound(start_kind), bound(end_kind));
             let found = opened.and_then(|it| it.first_in_range(range, start, end, out));
-            Reading::Scan(scan(found))
+            Reading::Scanned(scanned(found))
         }
-        Read::GetGt(key) => Reading::Scan(scan(opened.and_then(|it| it.get_gt(key, out)))),
-        Read::First => Reading::Scan(scan(opened.and_then(|it| it.first(out)))),
+        Read::GetGt(key) => Reading::Scanned(scanned(opened.and_then(|it| it.get_gt(key, out)))),
+        Read::First => Reading::Scanned(scanned(opened.and_then(|it| it.first(out)))),
         Read::ScanPrefix(prefix) => Reading::Span(span(scan_prefix(prefix, out))),
         Read::LeafAt(at) => Reading::Shown(shown(opened.map(|it| it.leaf_at(at)))),
     }
@@ -87,9 +87,9 @@ fn place(answer: Result<Option<opened::Place>, Refusal>) -> Place {
     }
 }
 
-fn scan(answer: Result<Option<FoundAt>, Refusal>) -> Scan {
+fn scanned(answer: Result<Option<FoundAt>, Refusal>) -> Scanned {
     match answer {
-        Ok(Some(pair)) => Scan {
+        Ok(Some(pair)) => Scanned {
             refusal: 0,
             length: 0,
             found: 1,
@@ -97,11 +97,11 @@ fn scan(answer: Result<Option<FoundAt>, Refusal>) -> Scan {
             offset: pair.value.offset,
             value: pair.value.length,
         },
-        Ok(None) => Scan::default(),
-        Err(refusal) => Scan {
+        Ok(None) => Scanned::default(),
+        Err(refusal) => Scanned {
             refusal: number(refusal),
             length: needed(refusal),
-            ..Scan::default()
+            ..Scanned::default()
         },
     }
 }

@@ -1,7 +1,7 @@
 //! The reading calls: they look up, scan and show, and change nothing that is
 //! lent but an output.
 
-use crate::exports::{EXCLUDED, INCLUDED, Place, Scan, Shown, Span, Told};
+use crate::exports::{EXCLUDED, INCLUDED, Place, Scanned, Shown, Span, Told};
 use reference::buffers::{Buffers, Header};
 use std::fmt;
 
@@ -22,9 +22,21 @@ pub enum Read<'a> {
 pub enum Reading {
     Told(Told),
     Place(Place),
-    Scan(Scan),
+    Scanned(Scanned),
     Span(Span),
     Shown(Shown),
+}
+
+/// Lent to a call that takes none.
+pub(crate) fn no_index() -> (Header, Buffers) {
+    let header = Header {
+        fanout: 0,
+        leaves: 0,
+        pairs: 0,
+        charge: 0,
+    };
+    let (dir, slots, arena) = (Vec::new(), Vec::new(), Vec::new());
+    (header, Buffers { dir, slots, arena })
 }
 
 /// Answers a reading call, and leaves the buffers and the output as the call
@@ -94,7 +106,7 @@ impl Reading {
         match self {
             Reading::Told(told) => told.refusal,
             Reading::Place(place) => place.refusal,
-            Reading::Scan(scan) => scan.refusal,
+            Reading::Scanned(scan) => scan.refusal,
             Reading::Span(span) => span.refusal,
             Reading::Shown(shown) => shown.refusal,
         }
@@ -105,7 +117,7 @@ impl Reading {
         match self {
             Reading::Told(told) => told.length == 1,
             Reading::Place(place) => place.found == 1,
-            Reading::Scan(scan) => scan.found == 1,
+            Reading::Scanned(scan) => scan.found == 1,
             Reading::Span(span) => span.refusal == 0,
             Reading::Shown(shown) => shown.found == 1,
         }

@@ -35,7 +35,9 @@ impl Answer {
             Answer::Verdict(false) => "not W",
             Answer::Changed(Reply { refusal: 0, .. })
             | Answer::Counted(Told { refusal: 0, .. }) => "accepted",
-            Answer::Changed(_) | Answer::Counted(_) => "refused",
+            Answer::Changed(Reply { refusal: 2, .. })
+            | Answer::Counted(Told { refusal: 2, .. }) => "refused 2",
+            Answer::Changed(_) | Answer::Counted(_) => "refused 1",
         }
     }
 }

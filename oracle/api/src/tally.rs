@@ -25,6 +25,11 @@ impl Tally {
     pub fn calls(&self) -> usize {
         self.0.values().sum()
     }
+
+    /// How many of them were on damaged buffers.
+    pub fn damaged(&self) -> usize {
+        self.of("not W") + self.of("refused 2")
+    }
 }
 
 impl fmt::Display for Tally {

@@ -1,7 +1,7 @@
 //! How long the calls take.
 
 use crate::exports::{INCLUDED, OPEN};
-use crate::reads::Read;
+use crate::reads::{Read, no_index};
 use crate::session::WHOLE;
 use crate::sides::archive::{holds_index, time_changes, time_holds_index, time_read};
 use crate::writes::Write;
@@ -58,16 +58,9 @@ pub fn run(pairs: usize, seed: u64) -> Vec<Timed> {
 
 /// Of `scan_prefix`, which takes no index, with a prefix of one key's length.
 pub fn run_prefix() -> Duration {
-    let header = Header {
-        fanout: 0,
-        leaves: 0,
-        pairs: 0,
-        charge: 0,
-    };
-    let (dir, slots, arena) = (Vec::new(), Vec::new(), Vec::new());
-    let no_index = Buffers { dir, slots, arena };
+    let (header, lent) = no_index();
     let read = Read::ScanPrefix(&[0x61; KEY]);
-    best(|times| time_read(read, header, &no_index, &mut [0; KEY], times))
+    best(|times| time_read(read, header, &lent, &mut [0; KEY], times))
 }
 
 /// From the time of so many calls that of one: the best of some rounds, each

@@ -1,21 +1,18 @@
-//! The recorded answers are the reference's, and in the domain sled's.
+//! The recorded answers, and those to the examples, are the reference's, and in
+//! the domain sled's.
 
 use drive::fixed;
 use drive::lines::{all_accepted, leaf_counts};
-use drive::record::{replay, samples};
 use std::fs;
 use std::path::Path;
 
-#[test]
-fn recorded_answers() {
-    let folder = Path::new(env!("CARGO_MANIFEST_DIR")).join("../recorded");
+/// The scripts of a folder, by their file names' kind, each held to its answers.
+fn scripts(folder: &str, kind: &str) -> Vec<(String, Vec<u8>)> {
+    let folder = Path::new(env!("CARGO_MANIFEST_DIR")).join(folder);
     let entries = fs::read_dir(folder).unwrap();
     let paths = entries.map(|entry| entry.unwrap().path());
-    let scripts: Vec<_> = paths
-        .filter(|path| path.extension() == Some("in".as_ref()))
-        .collect();
-    assert!(scripts.len() > 25);
-    for path in scripts {
+    let mut scripts = Vec::new();
+    for path in paths.filter(|path| path.extension() == Some(kind.as_ref())) {
         let script = fs::read(&path).unwrap();
         let answers = fs::read(path.with_extension("out")).unwrap();
         assert!(reference::script::run(&script) == answers, "{path:?}");
@@ -24,9 +21,24 @@ fn recorded_answers() {
             "{path:?}"
         );
         let name = path.file_name().unwrap().to_str().unwrap();
+        scripts.push((name.to_string(), script));
+    }
+    scripts
+}
+
+#[test]
+fn recorded_answers() {
+    let scripts = scripts("../recorded", "in");
+    assert!(scripts.len() > 25);
+    for (name, script) in scripts {
         let removes = script.windows(5).any(|part| part == b"\ndel ");
         assert_eq!(name.starts_with("mixed-"), removes, "{name}");
     }
+}
+
+#[test]
+fn examples() {
+    assert!(scripts("../../examples", "txt").len() > 5);
 }
 
 /// Each `put` and `del` between two `leaves` splits or merges.
@@ -45,14 +57,4 @@ fn places() {
     assert!(splits.chunks(2).all(|two| two[1] == two[0] + 1));
     let merges = counts("mixed-merge-places");
     assert!(merges.chunks(7).all(|rows| rows[0] == 5 && rows[6] <= 2));
-}
-
-/// What the script program is run on, and what it must write.
-#[test]
-fn replayed() {
-    let program = Path::new(env!("CARGO_MANIFEST_DIR")).join("../../crates/script");
-    let script = replay(&samples());
-    assert!(fs::read(program.join("stdin")).unwrap() == script);
-    assert!(fs::read(program.join("stdout")).unwrap() == reference::script::run(&script));
-    assert!(script.windows(5).any(|part| part == b"\ndel "));
 }

@@ -19,7 +19,7 @@ pub fn run(reader: &dyn Reader, seed: u64, indexes: usize) -> Result<Tally, Stri
 }
 
 fn every_length(session: &mut Session, read: Read) -> Result<(), String> {
-    let (Reading::Scan(scan), _) = session.ask(read, WHOLE)? else {
+    let (Reading::Scanned(scan), _) = session.ask(read, WHOLE)? else {
         unreachable!("a scan's answer");
     };
     for room in 0..=scan.key + 1 {

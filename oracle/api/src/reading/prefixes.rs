@@ -1,9 +1,8 @@
 //! `scan_prefix`, with outputs of every length up to one more than needed.
 
-use crate::reads::{Read, Reader, Reading};
+use crate::reads::{Read, Reader, Reading, no_index};
 use crate::session::{Session, WHOLE};
 use crate::tally::Tally;
-use reference::buffers::{Buffers, Header};
 use reference::index::KEY_LIMIT;
 use reference::random::Random;
 
@@ -46,16 +45,4 @@ fn prefix(random: &mut Random) -> Vec<u8> {
         prefix.resize(over, random.pick(&LETTERS));
     }
     prefix
-}
-
-/// The call takes none.
-fn no_index() -> (Header, Buffers) {
-    let header = Header {
-        fanout: 0,
-        leaves: 0,
-        pairs: 0,
-        charge: 0,
-    };
-    let (dir, slots, arena) = (Vec::new(), Vec::new(), Vec::new());
-    (header, Buffers { dir, slots, arena })
 }

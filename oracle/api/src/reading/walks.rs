@@ -3,7 +3,7 @@
 
 use super::keys::random_one;
 use super::on_indexes;
-use crate::exports::{EXCLUDED, OPEN, Scan};
+use crate::exports::{EXCLUDED, OPEN, Scanned};
 use crate::reads::{Read, Reader, Reading};
 use crate::session::{Session, WHOLE};
 use crate::tally::Tally;
@@ -87,10 +87,10 @@ fn walk_prefix(session: &mut Session, prefix: &[u8]) -> Result<Vec<Pair>, String
 
 /// The pair that a scan finds.
 fn pair(session: &mut Session, read: Read) -> Result<Option<Pair>, String> {
-    let (Reading::Scan(scan), out) = session.ask(read, WHOLE)? else {
+    let (Reading::Scanned(scan), out) = session.ask(read, WHOLE)? else {
         unreachable!("a scan's answer");
     };
-    let Scan {
+    let Scanned {
         key, offset, value, ..
     } = scan;
     let pair = || {

@@ -69,7 +69,7 @@ fn slips() {
         (
             "5 before 2",
             |asked| match asked.unwritten().0 {
-                Reading::Scan(scan) if scan.refusal == 2 && asked.out.is_empty() => {
+                Reading::Scanned(scan) if scan.refusal == 2 && asked.out.is_empty() => {
                     asked.refused(5)
                 }
                 _ => asked.right(),

@@ -6,7 +6,7 @@ mod lookups;
 mod prefixes;
 mod scans;
 
-use api::exports::{Place, Scan, Shown, Span, Told};
+use api::exports::{Place, Scanned, Shown, Span, Told};
 use api::reading;
 use api::reads::{Read, Reader, Reading};
 use api::sides::Reference;
@@ -86,9 +86,9 @@ impl Asked<'_> {
                 refusal,
                 ..Place::default()
             }),
-            Read::FirstInRange(..) | Read::GetGt(_) | Read::First => Reading::Scan(Scan {
+            Read::FirstInRange(..) | Read::GetGt(_) | Read::First => Reading::Scanned(Scanned {
                 refusal,
-                ..Scan::default()
+                ..Scanned::default()
             }),
             Read::ScanPrefix(_) => Reading::Span(Span {
                 refusal,

@@ -1,7 +1,7 @@
 //! Slips of `first_in_range`, `get_gt` and `first`.
 
 use super::{Asked, Row, noticed};
-use api::exports::{EXCLUDED, INCLUDED, OPEN, Scan};
+use api::exports::{EXCLUDED, INCLUDED, OPEN, Scanned};
 use api::reads::{Read, Reading};
 
 #[test]
@@ -149,7 +149,7 @@ fn slips_of_the_walk() {
             "a scan that ends with its leaf",
             |asked| {
                 let (reading, out) = asked.unwritten();
-                let (Reading::Scan(scan), Some(leaves)) = (reading, asked.leaves()) else {
+                let (Reading::Scanned(scan), Some(leaves)) = (reading, asked.leaves()) else {
                     return asked.right();
                 };
                 let from = match asked.read {
@@ -257,7 +257,7 @@ fn slips_of_the_output() {
             "the byte behind the key touched",
             |asked| {
                 let reading = asked.right();
-                if let Reading::Scan(scan) = reading
+                if let Reading::Scanned(scan) = reading
                     && let Some(byte) = asked.out[scan.key..].first_mut()
                     && scan.found == 1
                 {
@@ -271,7 +271,7 @@ fn slips_of_the_output() {
             "the output touched at the end",
             |asked| {
                 let reading = asked.right();
-                if let (Reading::Scan(scan), Some(byte)) = (reading, asked.out.first_mut())
+                if let (Reading::Scanned(scan), Some(byte)) = (reading, asked.out.first_mut())
                     && (scan.refusal, scan.found) == (0, 0)
                 {
                     *byte ^= 1;
@@ -296,7 +296,7 @@ fn slips_of_the_output() {
         (
             "an output of just the key's length refused",
             |asked| match asked.unwritten().0 {
-                Reading::Scan(scan) if scan.found == 1 && scan.key == asked.out.len() => {
+                Reading::Scanned(scan) if scan.found == 1 && scan.key == asked.out.len() => {
                     short(scan.key)
                 }
                 _ => asked.right(),
@@ -306,7 +306,7 @@ fn slips_of_the_output() {
         (
             "5 with a length one off",
             |asked| match asked.right() {
-                Reading::Scan(scan) if scan.refusal == 5 => short(scan.length + 1),
+                Reading::Scanned(scan) if scan.refusal == 5 => short(scan.length + 1),
                 reading => reading,
             },
             &["examples", "ranges", "outputs"],
@@ -314,7 +314,7 @@ fn slips_of_the_output() {
         (
             "5 with the length that is there",
             |asked| match asked.right() {
-                Reading::Scan(scan) if scan.refusal == 5 => short(asked.out.len()),
+                Reading::Scanned(scan) if scan.refusal == 5 => short(asked.out.len()),
                 reading => reading,
             },
             &["examples", "ranges", "outputs"],
@@ -362,11 +362,11 @@ fn with_kinds(asked: &mut Asked, other: impl Fn([usize; 2]) -> [usize; 2]) -> Re
 }
 
 /// A found pair, changed.
-fn with(asked: &mut Asked, change: impl Fn(&mut Scan)) -> Reading {
+fn with(asked: &mut Asked, change: impl Fn(&mut Scanned)) -> Reading {
     match asked.right() {
-        Reading::Scan(mut scan) if scan.found == 1 => {
+        Reading::Scanned(mut scan) if scan.found == 1 => {
             change(&mut scan);
-            Reading::Scan(scan)
+            Reading::Scanned(scan)
         }
         reading => reading,
     }
@@ -374,16 +374,16 @@ fn with(asked: &mut Asked, change: impl Fn(&mut Scan)) -> Reading {
 
 fn found(reading: Reading, out: &[u8]) -> Option<&[u8]> {
     match reading {
-        Reading::Scan(scan) if scan.found == 1 => Some(&out[..scan.key]),
+        Reading::Scanned(scan) if scan.found == 1 => Some(&out[..scan.key]),
         _ => None,
     }
 }
 
 fn short(length: usize) -> Reading {
-    Reading::Scan(Scan {
+    Reading::Scanned(Scanned {
         refusal: 5,
         length,
-        ..Scan::default()
+        ..Scanned::default()
     })
 }
 

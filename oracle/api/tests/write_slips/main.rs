@@ -1,6 +1,7 @@
 //! Writers with a slip, each of which the parts named beside it notice.
 
 mod answers;
+mod either;
 mod merges;
 mod removes;
 mod rules;

@@ -1,7 +1,7 @@
 //! The dump of docs/LAYOUT.md, whose places stand there too.
 
 use super::{Examples, Held};
-use crate::exports::{Place, Scan, Shown};
+use crate::exports::{Place, Scanned, Shown};
 use crate::reads::{Read, Reading};
 use crate::session::Session;
 use reference::buffers::{Buffers, Header};
@@ -60,7 +60,7 @@ fn one_byte_at(offset: usize) -> Reading {
 }
 
 fn pair_with_value_at(offset: usize) -> Reading {
-    Reading::Scan(Scan {
+    Reading::Scanned(Scanned {
         refusal: 0,
         length: 0,
         found: 1,

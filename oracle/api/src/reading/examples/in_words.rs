@@ -11,7 +11,7 @@ pub fn of(reading: Reading, out: &[u8], arena: &[u8]) -> String {
         _ if !reading.found() => "none".to_string(),
         Reading::Told(_) => "held".to_string(),
         Reading::Place(place) => format!("value {}", bytes(place.offset, place.length)),
-        Reading::Scan(scan) => {
+        Reading::Scanned(scan) => {
             let (key, value) = (hex(&out[..scan.key]), bytes(scan.offset, scan.value));
             format!("pair {key} {value}")
         }
@@ -34,7 +34,7 @@ pub fn of(reading: Reading, out: &[u8], arena: &[u8]) -> String {
 fn refusal(reading: Reading) -> String {
     let number = reading.refusal();
     match reading {
-        Reading::Scan(scan) if number == 5 => format!("refused 5 needs {}", scan.length),
+        Reading::Scanned(scan) if number == 5 => format!("refused 5 needs {}", scan.length),
         Reading::Span(span) if number == 5 => format!("refused 5 needs {}", span.length),
         _ => format!("refused {number}"),
     }
