@@ -1,0 +1,243 @@
+//! Times each call of the index beside sled's leaf.rs (the oracle's harness) and
+//! the standard `BTreeMap`, in one process and by one driver, and prints tables.
+//!
+//! Words: the numbers of pairs, else 40, 2000 and 20000.
+
+mod clock;
+mod sides;
+
+use clock::{time, time_each};
+use sides::Side;
+use std::hint::black_box;
+use std::time::Duration;
+
+const KEY: usize = 24;
+const VALUE: usize = 8;
+/// Long enough that one pair has it.
+const PREFIX: usize = 10;
+/// Keys asked for by turns.
+const ASKED: usize = 64;
+/// The best round counts. In each, the sides take turns.
+const ROUNDS: usize = 5;
+
+type Pair = (Vec<u8>, Vec<u8>);
+type Sides = [Box<dyn Side>; 3];
+
+/// The best time of one call on each side that has it.
+struct Row {
+    call: &'static str,
+    /// How often the index tests W for it, at its full size.
+    tests: u32,
+    best: [Option<Duration>; 3],
+}
+
+impl Row {
+    fn new(call: &'static str, tests: u32) -> Row {
+        let best = [None; 3];
+        Row { call, tests, best }
+    }
+
+    fn took(&mut self, side: usize, time: Duration) {
+        let best = self.best[side].get_or_insert(time);
+        *best = time.min(*best);
+    }
+}
+
+fn main() {
+    let words: Vec<String> = std::env::args().skip(1).collect();
+    let number = |word: &String| word.parse().expect("a number of pairs");
+    let sizes: Vec<usize> = match words.as_slice() {
+        [] => vec![40, 2_000, 20_000],
+        words => words.iter().map(number).collect(),
+    };
+    // So that the first round is no worse than others.
+    grow(&mut sides::empty(), &random_pairs(500, 0));
+    for size in sizes {
+        // So few more that the size hardly changes.
+        let more = (size / 20).clamp(2, 20);
+        let pairs = random_pairs(size + more, size as u64);
+        let (held, new) = pairs.split_at(size);
+        let mut sides = sides::empty();
+        let mut rows = vec![grow(&mut sides, held)];
+        rows.extend(reads(&sides, held));
+        rows.extend(changes(&mut sides, held, new));
+        rows.push(clears(&sides, held));
+        print(size, &rows);
+    }
+}
+
+/// Distinct, since a key is 24 random bytes.
+fn random_pairs(count: usize, seed: u64) -> Vec<Pair> {
+    let mut state = seed.wrapping_add(1).wrapping_mul(0x9e37_79b9_7f4a_7c15);
+    let mut bytes = |length: usize| -> Vec<u8> {
+        let byte = |_| {
+            state ^= state << 13;
+            state ^= state >> 7;
+            state ^= state << 17;
+            (state >> 24) as u8
+        };
+        (0..length).map(byte).collect()
+    };
+    (0..count).map(|_| (bytes(KEY), bytes(VALUE))).collect()
+}
+
+fn grow(sides: &mut Sides, held: &[Pair]) -> Row {
+    let mut row = Row::new("insert, all from empty, the mean", 0);
+    for (place, side) in sides.iter_mut().enumerate() {
+        let all = time(|| insert_all(side.as_mut(), held));
+        row.took(place, all / held.len() as u32);
+    }
+    row
+}
+
+fn insert_all(side: &mut dyn Side, pairs: &[Pair]) {
+    for (key, value) in pairs {
+        black_box(side.insert(key, value));
+    }
+}
+
+type Read = fn(&dyn Side, &[u8]) -> Option<usize>;
+
+/// How often W is tested, and the call. The key is one that is held.
+const READS: [(&str, u32, Read); 10] = [
+    ("holds_index: the test of W", 1, |side, _| {
+        side.holds_index()
+    }),
+    ("get", 1, |side, key| Some(side.get(key))),
+    ("contains_key", 1, |side, key| Some(side.contains_key(key))),
+    ("first_in_range", 1, |side, key| {
+        Some(side.first_in_range(key))
+    }),
+    ("get_gt", 1, |side, key| Some(side.get_gt(key))),
+    ("first", 1, |side, _| Some(side.first())),
+    ("len", 1, |side, _| Some(side.len())),
+    ("scan_prefix, its one pair listed", 2, |side, key| {
+        Some(side.scan_prefix(&key[..PREFIX]))
+    }),
+    ("scan_prefix, the range alone", 0, |side, key| {
+        side.prefix_range(&key[..PREFIX])
+    }),
+    ("leaf_at", 1, |side, _| side.leaf_at(0)),
+];
+
+fn reads(sides: &Sides, held: &[Pair]) -> Vec<Row> {
+    let step = held.len().div_ceil(ASKED);
+    let keys: Vec<&[u8]> = held.iter().step_by(step).map(|(key, _)| &key[..]).collect();
+    let row = |&(call, tests, read): &(&'static str, u32, Read)| {
+        same_answers(sides, &keys, call, read);
+        let mut row = Row::new(call, tests);
+        for _ in 0..ROUNDS {
+            for (place, side) in sides.iter().enumerate() {
+                if read(side.as_ref(), keys[0]).is_none() {
+                    continue;
+                }
+                let each = |turn: usize| {
+                    black_box(read(side.as_ref(), keys[turn % keys.len()]));
+                };
+                row.took(place, time_each(each));
+            }
+        }
+        row
+    };
+    READS.iter().map(row).collect()
+}
+
+/// That all who have the call did the same work.
+fn same_answers(sides: &Sides, keys: &[&[u8]], call: &str, read: Read) {
+    for key in keys {
+        let mut answers = sides.iter().filter_map(|side| read(side.as_ref(), key));
+        let first = answers.next();
+        assert!(answers.all(|answer| Some(answer) == first), "{call}");
+    }
+}
+
+fn changes(sides: &mut Sides, held: &[Pair], new: &[Pair]) -> Vec<Row> {
+    let mut replace = Row::new("insert, a key that is held", 1);
+    let mut insert = Row::new("insert, a new key", 1);
+    let mut remove = Row::new("remove", 1);
+    let count = new.len() as u32;
+    for _ in 0..ROUNDS {
+        for (place, side) in sides.iter_mut().enumerate() {
+            let each = |turn: usize| {
+                let (key, value) = &held[turn * 7 % held.len()];
+                black_box(side.insert(key, value));
+            };
+            replace.took(place, time_each(each));
+            // Again and again, so that the clock's steps don't show.
+            let (mut inserts, mut removes) = (Duration::ZERO, Duration::ZERO);
+            let mut turns = 0;
+            while turns == 0 || inserts < Duration::from_millis(10) && turns < 1_000 {
+                inserts += time(|| insert_all(side.as_mut(), new));
+                removes += time(|| {
+                    for (key, _) in new {
+                        black_box(side.remove(key));
+                    }
+                });
+                turns += 1;
+            }
+            insert.took(place, inserts / turns / count);
+            remove.took(place, removes / turns / count);
+        }
+    }
+    vec![replace, insert, remove]
+}
+
+fn clears(sides: &Sides, held: &[Pair]) -> Row {
+    let mut row = Row::new("clear", 1);
+    for _ in 0..ROUNDS {
+        for (place, side) in sides.iter().enumerate() {
+            let mut copy = side.copy(held);
+            row.took(place, time(|| copy.clear()));
+            assert_eq!(copy.len(), 0);
+        }
+    }
+    row
+}
+
+fn print(size: usize, rows: &[Row]) {
+    let test_of_w = rows[1].best[0].expect("the index has it");
+    println!(
+        "| {size} pairs: call | index µs | of it W | sled µs | BTreeMap µs | index / sled | index / BTreeMap |"
+    );
+    println!("|---|---|---|---|---|---|---|");
+    for Row { call, tests, best } in rows {
+        let [Some(index), sled, map] = *best else {
+            continue;
+        };
+        let share = match tests {
+            0 => String::new(),
+            _ => share(test_of_w * *tests, index),
+        };
+        let cell = |time: Option<Duration>| time.map_or(String::new(), micro);
+        let ratio = |time: Option<Duration>| {
+            time.map_or(String::new(), |time| figures(index.div_duration_f64(time)))
+        };
+        println!(
+            "| {call} | {} | {share} | {} | {} | {} | {} |",
+            micro(index),
+            cell(sled),
+            cell(map),
+            ratio(sled),
+            ratio(map)
+        );
+    }
+    println!();
+}
+
+fn share(part: Duration, whole: Duration) -> String {
+    let hundredths = 100.0 * part.div_duration_f64(whole);
+    format!("{:.0} %", hundredths.min(100.0))
+}
+
+fn micro(time: Duration) -> String {
+    figures(time.as_secs_f64() * 1e6)
+}
+
+/// Two or three figures that count.
+fn figures(number: f64) -> String {
+    match number {
+        0.0..1.0 => format!("{number:.2}"),
+        1.0..10.0 => format!("{number:.1}"),
+        _ => format!("{number:.0}"),
+    }
+}

@@ -1,0 +1,7 @@
+#ifndef BARE_STRING_H
+#define BARE_STRING_H
+#include <stddef.h>
+void *memcpy(void *, const void *, size_t);
+void *memset(void *, int, size_t);
+int memcmp(const void *, const void *, size_t);
+#endif
