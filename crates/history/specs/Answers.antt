@@ -12,12 +12,12 @@ use Rattle.changes.specs.Outcomes.{ChangedBy, Kept, Lent, oldBytes, oldTold}
 use Rattle.changes.specs.Outcomes as changes
 use Rattle.changes.specs.declared.Changed.{Changed}
 use Rattle.history.specs.Histories.{Call, History, Reading, State, clear, contains-key, create, first, first-in-range, get, get-gt, get-value, holds-index, insert, leaf-at, leavesOf, len, lending, mapOf, range-value, read, remove, scan-prefix}
-use Rattle.history.specs.Says.{ContainsSays, CreateSays, GetSays, InsertRefused, LenSays, OldRefused, OldSays, PrefixRefused, PrefixSays, RangeValueSays, ReadSays, Says, ScanSays, bytesOf, inverted-range, long-end, long-key, long-prefix, long-start, long-value, no-leaf, no-room, old-refused, short-end, short-key, short-output, valueOf}
+use Rattle.history.specs.Says.{ContainsSays, CreateSays, GetSays, InsertRefused, LenSays, OldRefused, OldSays, PrefixLies, PrefixRefused, PrefixSays, RangeValueSays, ReadSays, Says, ScanSays, Short, bytesOf, inverted-range, long-end, long-key, long-prefix, long-start, long-value, no-leaf, no-room, old-refused, short-end, short-key, short-output, valueOf}
 use Rattle.history.specs.Stands.{Stands, answered, presumed, stands}
 use Rattle.layout.specs.Examples.{header}
 use Rattle.layout.specs.Places.{placeOf}
 use Rattle.lists.specs.All.{All}
-use Rattle.lists.specs.Part.{drop-put-after, part-put, put, put-nil}
+use Rattle.lists.specs.Part.{drop-put-after, length-put, part-put, put, put-nil}
 use Rattle.model.specs.Answers.{Gives, accepted, answerCode, beyond, containsAnswer, everything, getAnswer, inverted, isSome, keyOf, keyWritten, leafAnswer, lenAnswer, longBound, longKey, longValue, meetsSizes, noLeaf, noRoom, rangeAnswer, rangeFound, refuseIf, short, sizeOf}
 use Rattle.model.specs.Good.{Bounds, Tiled, Within, limits}
 use Rattle.model.specs.Leaves.{Node, pairsOf}
@@ -46,6 +46,7 @@ use Rattle.prefixes.specs.RangeLaws.{made-exact}
 use Rattle.prefixes.specs.declared.Prefixed.{Prefixed}
 use Rattle.prefixes.specs.declared.Prefixed.the-variants.{Made}
 use Rattle.prefixes.specs.declared.Prefixed.the-variants as prefixed
+use Rattle.prefixes.specs.declared.Span.{Span}
 use Rattle.tree_insert.specs.Outcomes.{InsertBy, InsertOutcome}
 use Rattle.tree_range.specs.Outcomes.{RangeValueOutcome, Scans, keyTold, scanTold}
 use Rattle.tree_range.specs.Outcomes as range
@@ -80,6 +81,9 @@ found-within B k (p ∷ m) v a e =
 front : (out : Bytes) {now-out : Bytes} (b : Bytes) → now-out ≡ put out 0 b → take (length b) now-out ≡ b
 front out b e = ap (take (length b)) e ∙ part-put out 0 b (omega arith)
 
+lasts : (out : Bytes) {now-out : Bytes} (b : Bytes) → length b ≤ length out → now-out ≡ put out 0 b → length now-out ≡ length out
+lasts out b h e = ap length e ∙ length-put out 0 b (omega (arith, h))
+
 behind : (out : Bytes) {now-out : Bytes} (b : Bytes) → now-out ≡ put out 0 b → drop (length b) now-out ≡ drop (length b) out
 behind out b e = ap (drop (length b)) e ∙ drop-put-after out 0 b (length b) (omega arith) (omega arith)
 
@@ -96,16 +100,16 @@ module _ {s : State} {ns : List Node} {m : List Pair} {within : (kmost vmost : �
     get-told : (b : Bool) → longKey k ≡ b → (o : Option Bytes) → lookup k (pairsOf ns) ≡ o
         → GetSays (s .arena) k m (foundTold (placeOf (s .header) (s .dir) (s .slots) (s .arena) ns k) (refuseIf b LongKey (accepted o)))
     get-told true e o l = record { refused = refl; long = ltb-true keyLimit (length k) e }
-    get-told false e none l = looked k l
-    get-told false e (some v) l = let q = value-lies (presumed x) k v l in record { found = looked k l ∙ ap some (sym (q .is)); inside = q .inside }
+    get-told false e none l = (looked k l, ltb-false keyLimit (length k) e)
+    get-told false e (some v) l = let q = value-lies (presumed x) k v l in (record { found = looked k l ∙ ap some (sym (q .is)); inside = q .inside }, ltb-false keyLimit (length k) e)
 
     get-says : (r : Found) → GetOutcome (s .header) (s .dir) (s .slots) (s .arena) k r → GetSays (s .arena) k m r
     get-says r o = subst (GetSays (s .arena) k m) (sym (answered x (λ l. Gives foundCode (foundTold (placeOf (s .header) (s .dir) (s .slots) (s .arena) l k) (getAnswer k l)) (answerCode (getAnswer k l)) r) o .answer-is)) (get-told (longKey k) refl (lookup k (pairsOf ns)) refl)
 
     contains-told : (b : Bool) → longKey k ≡ b → (o : Option Bytes) → lookup k (pairsOf ns) ≡ o → ContainsSays k m (containedTold (refuseIf b LongKey (accepted (isSome o))))
     contains-told true e o l = record { refused = refl; long = ltb-true keyLimit (length k) e }
-    contains-told false e none l = looked k l
-    contains-told false e (some v) l = λ q. none-some (sym q ∙ looked k l)
+    contains-told false e none l = (looked k l, ltb-false keyLimit (length k) e)
+    contains-told false e (some v) l = ((λ q. none-some (sym q ∙ looked k l)), ltb-false keyLimit (length k) e)
 
     contains-says : (r : Contained) → ContainsOutcome (s .header) (s .dir) (s .slots) (s .arena) k r → ContainsSays k m r
     contains-says r o = subst (ContainsSays k m) (sym (answered x (λ l. Gives containedCode (containedTold (containsAnswer k l)) (answerCode (containsAnswer k l)) r) o .answer-is)) (contains-told (longKey k) refl (lookup k (pairsOf ns)) refl)
@@ -140,19 +144,22 @@ module _ {s : State} {ns : List Node} {m : List Pair} {within : (kmost vmost : �
     seen-is out now-out p f e =
         pair-path _ p (front out (p .key) e) (lies p f .is)
 
-    found-told : (out now-out : Bytes) (o : Option Pair) → firstIn r start end (pairsOf ns) ≡ o → (d : Bool) → short (length out) (keyOf o) ≡ d
+    found-told : (out now-out : Bytes) → Allowed r start end → (o : Option Pair) → firstIn r start end (pairsOf ns) ≡ o → (d : Bool) → short (length out) (keyOf o) ≡ d
         → now-out ≡ put out 0 (keyTold (refuseIf d (ShortOutput (sizeOf (keyOf o))) (accepted o)))
         → ScanSays (s .arena) r start end m out now-out (scanTold place (refuseIf d (ShortOutput (sizeOf (keyOf o))) (accepted o)))
-    found-told out now-out none f true h e = absurd (let z : _≡_ {A = ℕ} 0 1 = ap (λ (b : Bool). elim b [ true ↦ 1 | false ↦ 0 ]) h in omega (arith, z))
-    found-told out now-out none f false h e = (scanned f, e ∙ put-nil out 0)
-    found-told out now-out (some p) f true h e = (short-key p (scanned f) (ltb-true (length out) (length (p .key)) h), e ∙ put-nil out 0)
-    found-told out now-out (some p) f false h e =
-        record {
-          found = scanned f ∙ ap some (sym (seen-is out now-out p f e));
-          inside = lies p f .inside;
-          fits = ltb-false (length out) (length (p .key)) h;
-          rest = behind out (p .key) e;
-        }
+    found-told out now-out a none f true h e = absurd (let z : _≡_ {A = ℕ} 0 1 = ap (λ (b : Bool). elim b [ true ↦ 1 | false ↦ 0 ]) h in omega (arith, z))
+    found-told out now-out a none f false h e = (scanned f, (e ∙ put-nil out 0, a))
+    found-told out now-out a (some p) f true h e = (short-key p (scanned f) (ltb-true (length out) (length (p .key)) h), e ∙ put-nil out 0)
+    found-told out now-out a (some p) f false h e = (
+      record {
+        found = scanned f ∙ ap some (sym (seen-is out now-out p f e));
+        inside = lies p f .inside;
+        fits = ltb-false (length out) (length (p .key)) h;
+        rest = behind out (p .key) e;
+        same-length = lasts out (p .key) (ltb-false (length out) (length (p .key)) h) e;
+      },
+      a,
+    )
 
     scan-told : (out now-out : Bytes) (a b c : Bool) → longBound (r .start) start ≡ a → longBound (r .end) end ≡ b → inverted r start end ≡ c
         → now-out ≡ put out 0 (keyTold (keyWritten (length out) (refuseIf a LongKey (refuseIf b LongKey (refuseIf c InvertedRange (accepted (firstIn r start end (pairsOf ns))))))))
@@ -161,7 +168,8 @@ module _ {s : State} {ns : List Node} {m : List Pair} {within : (kmost vmost : �
     scan-told out now-out true b c i j k e = (long-start i, e ∙ put-nil out 0)
     scan-told out now-out false true c i j k e = (long-end j, e ∙ put-nil out 0)
     scan-told out now-out false false true i j k e = (inverted-range k, e ∙ put-nil out 0)
-    scan-told out now-out false false false i j k e = found-told out now-out (firstIn r start end (pairsOf ns)) refl (short (length out) (keyOf (firstIn r start end (pairsOf ns)))) refl e
+    scan-told out now-out false false false i j k e =
+        found-told out now-out (record { start-short = i; end-short = j; upright = k }) (firstIn r start end (pairsOf ns)) refl (short (length out) (keyOf (firstIn r start end (pairsOf ns)))) refl e
 
     scan-says : (out now-out : Bytes) (q : Scan) → Scans (s .header) (s .dir) (s .slots) (s .arena) ns (rangeAnswer r start end (length out) ns) out now-out q
         → ScanSays (s .arena) r start end m out now-out q
@@ -191,23 +199,28 @@ module _ {s : State} {ns : List Node} {m : List Pair} {within : (kmost vmost : �
   -- old values
 
   module _ (k : Bytes) where
-    old-told : (out now-out : Bytes) (why : Refusal → Type 0) (o : Option Bytes) → lookup k (pairsOf ns) ≡ o → short (length out) o ≡ false → now-out ≡ put out 0 (oldBytes o)
-        → OldSays k m out now-out why (oldTold o)
-    old-told out now-out why none l d e = (looked k l, e ∙ put-nil out 0)
-    old-told out now-out why (some v) l d e = record { found = looked k l ∙ ap some (sym (front out v e)); fits = ltb-false (length out) (length v) d; rest = behind out v e }
+    old-told : (out now-out : Bytes) (may : Type 0) (why : Refusal → Type 0) → may → (o : Option Bytes) → lookup k (pairsOf ns) ≡ o → short (length out) o ≡ false → now-out ≡ put out 0 (oldBytes o)
+        → OldSays k m out now-out may why (oldTold o)
+    old-told out now-out may why a none l d e = (looked k l, (e ∙ put-nil out 0, a))
+    old-told out now-out may why a (some v) l d e =
+        let f = ltb-false (length out) (length v) d in
+        (record { found = looked k l ∙ ap some (sym (front out v e)); fits = f; rest = behind out v e; same-length = lasts out v f e }, a)
 
-    module _ {r : Changed} {after : Lent} (out : Bytes) (why : Refusal → Type 0) where
-      kept-says : {y : Refusal} → why y → Kept y (s .header) (lending s out) r after → OldSays k m out (after .out) why (r .old)
-      kept-says w b = subst (OldSays k m out (after .out) why) (sym (b .answer .answer-is)) (w, b .out-is)
+    module _ {r : Changed} {after : Lent} (out : Bytes) (may : Type 0) (why : Refusal → Type 0) where
+      kept-says : {y : Refusal} → why y → Kept y (s .header) (lending s out) r after → OldSays k m out (after .out) may why (r .old)
+      kept-says w b = subst (OldSays k m out (after .out) may why) (sym (b .answer .answer-is)) (w, b .out-is)
 
-      made-says : (ms : List Node) → short (length out) (lookup k (pairsOf ns)) ≡ false → changes.Made (record { old = lookup k (pairsOf ns); nodes = ms }) (s .header) (lending s out) r after → OldSays k m out (after .out) why (r .old)
-      made-says ms d b = subst (OldSays k m out (after .out) why) (sym (b .answer .answer-is)) (old-told out (after .out) why (lookup k (pairsOf ns)) refl d (b .out-is))
+      made-says : (ms : List Node) → may → short (length out) (lookup k (pairsOf ns)) ≡ false → changes.Made (record { old = lookup k (pairsOf ns); nodes = ms }) (s .header) (lending s out) r after → OldSays k m out (after .out) may why (r .old)
+      made-says ms a d b = subst (OldSays k m out (after .out) may why) (sym (b .answer .answer-is)) (old-told out (after .out) may why a (lookup k (pairsOf ns)) refl d (b .out-is))
 
     short-says : (out : Bytes) (o : Option Bytes) → lookup k (pairsOf ns) ≡ o → short (length out) o ≡ true → OldRefused k m out (ShortOutput (sizeOf o))
     short-says out none l h = absurd (let z : _≡_ {A = ℕ} 0 1 = ap (λ (b : Bool). elim b [ true ↦ 1 | false ↦ 0 ]) h in omega (arith, z))
     short-says out (some v) l h = short-output v (looked k l) (ltb-true (length out) (length v) h)
 
     module _ (v out : Bytes) (r : Changed) (after : Lent) where
+      abbrev May : Type 0
+      May = Short k × (length v ≤ valueLimit)
+
       abbrev Why : Refusal → Type 0
       Why = InsertRefused (s .header .fanout) (length (s .dir)) (length (s .arena)) k v ns m out
 
@@ -215,15 +228,15 @@ module _ {s : State} {ns : List Node} {m : List Pair} {within : (kmost vmost : �
           → noLeaf (s .header .fanout) (length (s .dir)) k v ns ≡ d → noRoom (s .header .fanout) (length (s .arena)) k v ns ≡ e
           → ChangedBy (refuseIf a LongKey (refuseIf b LongValue (refuseIf c (ShortOutput (sizeOf (lookup k (pairsOf ns)))) (refuseIf d NoLeaf (refuseIf e NoRoom
           (accepted (record { old = lookup k (pairsOf ns); nodes = ms }))))))) (s .header) (lending s out) r after
-          → OldSays k m out (after .out) Why (r .old)
-      insert-told ms true b c d e i j l f g o = kept-says out Why (old-refused (long-key (ltb-true keyLimit (length k) i))) o
-      insert-told ms false true c d e i j l f g o = kept-says out Why (long-value (ltb-true valueLimit (length v) j)) o
-      insert-told ms false false true d e i j l f g o = kept-says out Why (old-refused (short-says out (lookup k (pairsOf ns)) refl l)) o
-      insert-told ms false false false true e i j l f g o = kept-says out Why (no-leaf f) o
-      insert-told ms false false false false true i j l f g o = kept-says out Why (no-room g) o
-      insert-told ms false false false false false i j l f g o = made-says out Why ms l o
+          → OldSays k m out (after .out) May Why (r .old)
+      insert-told ms true b c d e i j l f g o = kept-says out May Why (old-refused (long-key (ltb-true keyLimit (length k) i))) o
+      insert-told ms false true c d e i j l f g o = kept-says out May Why (long-value (ltb-true valueLimit (length v) j)) o
+      insert-told ms false false true d e i j l f g o = kept-says out May Why (old-refused (short-says out (lookup k (pairsOf ns)) refl l)) o
+      insert-told ms false false false true e i j l f g o = kept-says out May Why (no-leaf f) o
+      insert-told ms false false false false true i j l f g o = kept-says out May Why (no-room g) o
+      insert-told ms false false false false false i j l f g o = made-says out May Why ms (ltb-false keyLimit (length k) i, ltb-false valueLimit (length v) j) l o
 
-      insert-says : InsertOutcome (s .header) k v (lending s out) r after → OldSays k m out (after .out) Why (r .old)
+      insert-says : InsertOutcome (s .header) k v (lending s out) r after → OldSays k m out (after .out) May Why (r .old)
       insert-says o =
           insert-told (insertRule (s .header .fanout) k v ns) (longKey k) (longValue v) (short (length out) (lookup k (pairsOf ns)))
           (noLeaf (s .header .fanout) (length (s .dir)) k v ns) (noRoom (s .header .fanout) (length (s .arena)) k v ns) refl refl refl refl refl
@@ -232,12 +245,12 @@ module _ {s : State} {ns : List Node} {m : List Pair} {within : (kmost vmost : �
     module _ (out : Bytes) (r : Changed) (after : Lent) where
       remove-told : (ms : List Node) (a c : Bool) → longKey k ≡ a → short (length out) (lookup k (pairsOf ns)) ≡ c
           → ChangedBy (refuseIf a LongKey (refuseIf c (ShortOutput (sizeOf (lookup k (pairsOf ns)))) (accepted (record { old = lookup k (pairsOf ns); nodes = ms })))) (s .header) (lending s out) r after
-          → OldSays k m out (after .out) (OldRefused k m out) (r .old)
-      remove-told ms true c i l o = kept-says out (OldRefused k m out) (long-key (ltb-true keyLimit (length k) i)) o
-      remove-told ms false true i l o = kept-says out (OldRefused k m out) (short-says out (lookup k (pairsOf ns)) refl l) o
-      remove-told ms false false i l o = made-says out (OldRefused k m out) ms l o
+          → OldSays k m out (after .out) (Short k) (OldRefused k m out) (r .old)
+      remove-told ms true c i l o = kept-says out (Short k) (OldRefused k m out) (long-key (ltb-true keyLimit (length k) i)) o
+      remove-told ms false true i l o = kept-says out (Short k) (OldRefused k m out) (short-says out (lookup k (pairsOf ns)) refl l) o
+      remove-told ms false false i l o = made-says out (Short k) (OldRefused k m out) ms (ltb-false keyLimit (length k) i) l o
 
-      remove-says : RemoveOutcome (s .header) k (lending s out) r after → OldSays k m out (after .out) (OldRefused k m out) (r .old)
+      remove-says : RemoveOutcome (s .header) k (lending s out) r after → OldSays k m out (after .out) (Short k) (OldRefused k m out) (r .old)
       remove-says o = remove-told (removeRule true k ns) (longKey k) (short (length out) (lookup k (pairsOf ns))) refl refl (answered x (RemoveBy (s .header) k (lending s out) r after) o .changed)
 
   -- creation
@@ -253,6 +266,13 @@ module _ {s : State} {ns : List Node} {m : List Pair} {within : (kmost vmost : �
 refused-as : {x y : Refusal} → prefixed.Refused x ≡ prefixed.Refused y → y ≡ x
 refused-as {x} {y} e = ap (λ (q : Prefixed). elim q [ Made z ↦ y | prefixed.Refused z ↦ z ]) (sym e)
 
+made-refused : {A : Type 0} {x : Span} {y : Refusal} → Made x ≡ prefixed.Refused y → A
+made-refused e = absurd (let z : _≡_ {A = ℕ} 0 1 = ap (λ (q : Prefixed). elim q [ Made v ↦ 0 | prefixed.Refused v ↦ 1 ]) e in omega (arith, z))
+
+abbrev endOf : Prefixed → ℕ
+endOf (Made x) = x .end
+endOf (prefixed.Refused y) = 0
+
 prefix-refused : (p out now-out : Bytes) (y : Refusal) (a c : Bool) (e : Option Bytes) → longKey p ≡ a → prefixEnd p ≡ e → short (length out) e ≡ c
     → PrefixBy (refuseIf a LongKey (refuseIf c (ShortOutput (sizeOf e)) (accepted (record { range = prefixRange e; end = e })))) out now-out (prefixed.Refused y)
     → PrefixRefused p out y × (now-out ≡ out)
@@ -262,8 +282,27 @@ prefix-refused p out now-out y false true (some q) i j l o = (rw (refused-as (sy
 prefix-refused p out now-out y false false e i j l o =
     absurd (let z : _≡_ {A = ℕ} 0 1 = ap (λ (q : Prefixed). elim q [ Made v ↦ 1 | prefixed.Refused v ↦ 0 ]) (o .answer-is) in omega (arith, z))
 
+prefix-made : (p out now-out : Bytes) (x : Span) (a c : Bool) (e : Option Bytes) → longKey p ≡ a → prefixEnd p ≡ e → short (length out) e ≡ c → PrefixOutcome p out now-out (Made x)
+    → PrefixBy (refuseIf a LongKey (refuseIf c (ShortOutput (sizeOf e)) (accepted (record { range = prefixRange e; end = e })))) out now-out (Made x) → PrefixLies p out now-out x
+prefix-made p out now-out x true c e i j l q o = made-refused (o .answer-is)
+prefix-made p out now-out x false true e i j l q o = made-refused (o .answer-is)
+prefix-made p out now-out x false false none i j l q o =
+    let n : x .end ≡ 0 = ap endOf (o .answer-is) in
+    let f = o .out-is ∙ put-nil out 0 in
+    record { exact = λ k b. made-exact p out now-out x k b q; fits = omega (arith, n); rest = ap (drop (x .end)) f; same-length = ap length f; short-prefix = ltb-false keyLimit (length p) i }
+prefix-made p out now-out x false false (some b) i j l q o =
+    let n : x .end ≡ length b = ap endOf (o .answer-is) in
+    let f = ltb-false (length out) (length b) l in
+    record {
+      exact = λ k y. made-exact p out now-out x k y q;
+      fits = omega (arith, n, f);
+      rest = rw n (behind out b (o .out-is));
+      same-length = lasts out b f (o .out-is);
+      short-prefix = ltb-false keyLimit (length p) i;
+    }
+
 prefix-says : (p out now-out : Bytes) (r : Prefixed) → PrefixOutcome p out now-out r → PrefixSays p out now-out r
-prefix-says p out now-out (Made y) o = λ k b. made-exact p out now-out y k b o
+prefix-says p out now-out (Made y) o = prefix-made p out now-out y (longKey p) (short (length out) (prefixEnd p)) (prefixEnd p) refl refl refl o o
 prefix-says p out now-out (prefixed.Refused y) o = prefix-refused p out now-out y (longKey p) (short (length out) (prefixEnd p)) (prefixEnd p) refl refl refl o
 
 -- all together

@@ -1,11 +1,13 @@
--- Histories there are: an index of one leaf in two arena bytes, made by creation, and 61 put in it with the value 01.
+-- Histories there are: an index in a pool of two leaves and three arena bytes, made by creation, and 61 put in it with the value 01. The sizes are those
+-- of demand 3 for P = K = V = 1, to the byte.
 -- Assumes nothing.
 use mathlib.Core.List.{[], _∷_}
 use mathlib.Core.Path.{_≡_, refl, subst}
 use native.Mathlib.Omega.{arith}
 use Rattle.changes.specs.Outcomes.{Lent, lent}
 use Rattle.changes.specs.declared.Changed.{Changed}
-use Rattle.changes.specs.declared.Old.the-variants.{Nothing}
+use Rattle.changes.specs.declared.Old.the-variants.{Nothing, Refused}
+use Rattle.history.specs.Demand3.{sized}
 use Rattle.history.specs.Histories.{History, Within, begin, insert, mapOf, on, state}
 use Rattle.layout.specs.Buffers.{lowAt, lowWord, pairAt, slotWords, suffixAt, valueAt}
 use Rattle.layout.specs.Examples.{Blank, blank-holds, blank-w, header}
@@ -18,10 +20,11 @@ use Rattle.model.specs.Limits.{arenaLimit, fanoutLeast, fanoutLimit, keyLimit, 
 use Rattle.model.specs.Map.{pair}
 use Rattle.model.specs.Map as map
 use Rattle.model.specs.Rules.{freeFrom, fresh, insertHere, insertRule, lowestFree, splitIfFull, used}
+use Rattle.model.specs.declared.Refusal.the-variants.{NoLeaf, NoRoom}
 use Rattle.tree_create.specs.declared.Change.the-variants.{Done}
 use Rattle.tree_insert.specs.Outcomes.{InsertBy, InsertOutcome}
 
-blank : Blank 3 (0 ∷ []) (0 ∷ 0 ∷ 0 ∷ []) (0 ∷ 0 ∷ [])
+blank : Blank 3 (0 ∷ 0 ∷ []) (0 ∷ 0 ∷ 0 ∷ 0 ∷ 0 ∷ 0 ∷ []) (0 ∷ 0 ∷ 0 ∷ [])
 unfolding fanoutLeast fanoutLimit poolLeast poolLimit arenaLimit
 blank =
     record {
@@ -30,15 +33,15 @@ blank =
       low-word = refl;
     }
 
-begun : History (state (header 3 1 0 0) (0 ∷ []) (0 ∷ 0 ∷ 0 ∷ []) (0 ∷ 0 ∷ []))
+begun : History (state (header 3 1 0 0) (0 ∷ 0 ∷ []) (0 ∷ 0 ∷ 0 ∷ 0 ∷ 0 ∷ 0 ∷ []) (0 ∷ 0 ∷ 0 ∷ []))
 unfolding put fanoutLeast fanoutLimit poolLeast poolLimit arenaLimit
 begun =
-    begin 3 (0 ∷ []) (0 ∷ 0 ∷ 0 ∷ []) (0 ∷ 0 ∷ []) (0 ∷ []) (0 ∷ 0 ∷ 0 ∷ []) (record { header = header 3 1 0 0; answer = Done })
+    begin 3 (0 ∷ 0 ∷ []) (0 ∷ 0 ∷ 0 ∷ 0 ∷ 0 ∷ 0 ∷ []) (0 ∷ 0 ∷ 0 ∷ []) (0 ∷ 0 ∷ []) (0 ∷ 0 ∷ 0 ∷ 0 ∷ 0 ∷ 0 ∷ []) (record { header = header 3 1 0 0; answer = Done })
     (record { answer-is = refl; code-is = refl; fresh = record { header-is = refl; dir-is = refl; slots-are = refl }; holds = blank-holds blank }) refl
 
 -- the insert leaves one pair count, one slot word and the pair's two bytes
 
-put-in : Holds (header 3 1 1 2) (1 ∷ []) (0x1000001 ∷ 0 ∷ 0 ∷ []) (0x61 ∷ 0x01 ∷ []) (node 0 [] (pair (0x61 ∷ []) (0x01 ∷ []) ∷ []) ∷ [])
+put-in : Holds (header 3 1 1 2) (1 ∷ 0 ∷ []) (0x1000001 ∷ 0 ∷ 0 ∷ 0 ∷ 0 ∷ 0 ∷ []) (0x61 ∷ 0x01 ∷ 0 ∷ []) (node 0 [] (pair (0x61 ∷ []) (0x01 ∷ []) ∷ []) ∷ [])
 unfolding charge weight lowAt lowWord pairAt slotWords suffixAt valueAt
 put-in = record {
   sizes = blank .sizes;
@@ -52,10 +55,10 @@ put-in = record {
 }
 
 abbrev before : Lent
-before = lent (0 ∷ []) (0 ∷ 0 ∷ 0 ∷ []) (0 ∷ 0 ∷ []) []
+before = lent (0 ∷ 0 ∷ []) (0 ∷ 0 ∷ 0 ∷ 0 ∷ 0 ∷ 0 ∷ []) (0 ∷ 0 ∷ 0 ∷ []) []
 
 abbrev after : Lent
-after = lent (1 ∷ []) (0x1000001 ∷ 0 ∷ 0 ∷ []) (0x61 ∷ 0x01 ∷ []) []
+after = lent (1 ∷ 0 ∷ []) (0x1000001 ∷ 0 ∷ 0 ∷ 0 ∷ 0 ∷ 0 ∷ []) (0x61 ∷ 0x01 ∷ 0 ∷ []) []
 
 abbrev answer : Changed
 answer = record { header = header 3 1 1 2; old = Nothing }
@@ -78,7 +81,7 @@ inserts = record {
   held = λ w. subst (InsertBy (header 3 1 0 0) (0x61 ∷ []) (0x01 ∷ []) before answer after) (holds-unique (blank-holds blank) (w .holds)) answered;
 }
 
-pub example : History (state (header 3 1 1 2) (1 ∷ []) (0x1000001 ∷ 0 ∷ 0 ∷ []) (0x61 ∷ 0x01 ∷ []))
+pub example : History (state (header 3 1 1 2) (1 ∷ 0 ∷ []) (0x1000001 ∷ 0 ∷ 0 ∷ 0 ∷ 0 ∷ 0 ∷ []) (0x61 ∷ 0x01 ∷ 0 ∷ []))
 example = on begun (insert (0x61 ∷ []) (0x01 ∷ []) [] answer after inserts)
 
 pub example-map : mapOf example ≡ pair (0x61 ∷ []) (0x01 ∷ []) ∷ []
@@ -88,3 +91,8 @@ example-map = refl
 pub example-within : Within 1 1 example
 unfolding example begun
 example-within = ((omega arith, omega arith), tt)
+
+-- the sizing speaks of it: the insert could not be refused as 7 or 8
+pub example-sized : (answer .old ≡ Refused NoLeaf → ⊥) × (answer .old ≡ Refused NoRoom → ⊥)
+unfolding map.put begun
+example-sized = sized begun 1 1 1 tt (omega arith) (omega arith) (0x61 ∷ []) (0x01 ∷ []) [] answer after (omega arith) (omega arith) (omega arith) inserts

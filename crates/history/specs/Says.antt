@@ -25,6 +25,7 @@ use Rattle.prefixes.specs.End.{Begins, Byte}
 use Rattle.prefixes.specs.declared.Prefixed.{Prefixed}
 use Rattle.prefixes.specs.declared.Prefixed.the-variants.{Made}
 use Rattle.prefixes.specs.declared.Prefixed.the-variants as prefixed
+use Rattle.prefixes.specs.declared.Span.{Span}
 use Rattle.tree_create.specs.declared.Change.{Change}
 use Rattle.tree_create.specs.declared.Change.the-variants.{Done}
 use Rattle.tree_create.specs.declared.Change.the-variants as change
@@ -41,10 +42,13 @@ use Rattle.tree_range.specs.declared.Scan.{Scan}
 use Rattle.tree_range.specs.declared.Scan.the-variants as scan
 use Rattle.tree_range.specs.declared.Seen.{Seen}
 
--- a lookup is refused for nothing but a key over 512 bytes
+-- a lookup is refused exactly where the key has over 512 bytes
 pub record TooLong (k : Bytes) (x : Refusal) : Type 0 where
   pub refused : x ≡ LongKey
   pub long : keyLimit < length k
+
+abbrev pub Short : Bytes → Type 0
+Short k = length k ≤ keyLimit
 
 -- get: the value is that part of the arena, or there is none
 pub record ValueLies (arena : List ℕ) (k : Bytes) (m : List Pair) (place n : ℕ) : Type 0 where
@@ -52,13 +56,13 @@ pub record ValueLies (arena : List ℕ) (k : Bytes) (m : List Pair) (place n : �
   pub inside : place + n ≤ length arena
 
 abbrev pub GetSays : (arena : List ℕ) → Bytes → List Pair → Found → Type 0
-GetSays arena k m (found.At p n) = ValueLies arena k m (p .0) n
-GetSays arena k m found.Nothing = lookup k m ≡ none
+GetSays arena k m (found.At p n) = ValueLies arena k m (p .0) n × Short k
+GetSays arena k m found.Nothing = (lookup k m ≡ none) × Short k
 GetSays arena k m (found.Refused x) = TooLong k x
 
 abbrev pub ContainsSays : Bytes → List Pair → Contained → Type 0
-ContainsSays k m Yes = lookup k m ≡ none → ⊥
-ContainsSays k m No = lookup k m ≡ none
+ContainsSays k m Yes = (lookup k m ≡ none → ⊥) × Short k
+ContainsSays k m No = (lookup k m ≡ none) × Short k
 ContainsSays k m (Unasked x) = TooLong k x
 
 -- get_value, range_value: empty on none
@@ -81,6 +85,7 @@ pub record PairLies (arena : List ℕ) (range : Range) (s e : Bytes) (m : List P
   pub inside : x .place .0 + x .value ≤ length arena
   pub fits : x .key ≤ length out
   pub rest : drop (x .key) now-out ≡ drop (x .key) out
+  pub same-length : length now-out ≡ length out
 
 pub data ScanRefused (range : Range) (s e : Bytes) (m : List Pair) (out : Bytes) : Refusal → Type 0 where
   long-start : longBound (range .start) s ≡ true → ScanRefused range s e m out LongKey
@@ -89,8 +94,8 @@ pub data ScanRefused (range : Range) (s e : Bytes) (m : List Pair) (out : Bytes)
   short-key : (p : Pair) → firstIn range s e m ≡ some p → length out < length (p .key) → ScanRefused range s e m out (ShortOutput (length (p .key)))
 
 abbrev pub ScanSays : (arena : List ℕ) → Range → (start end : Bytes) → List Pair → (out now-out : Bytes) → Scan → Type 0
-ScanSays arena range s e m out now-out (scan.Pair x) = PairLies arena range s e m out now-out x
-ScanSays arena range s e m out now-out scan.End = (firstIn range s e m ≡ none) × (now-out ≡ out)
+ScanSays arena range s e m out now-out (scan.Pair x) = PairLies arena range s e m out now-out x × Allowed range s e
+ScanSays arena range s e m out now-out scan.End = (firstIn range s e m ≡ none) × ((now-out ≡ out) × Allowed range s e)
 ScanSays arena range s e m out now-out (scan.Refused x) = ScanRefused range s e m out x × (now-out ≡ out)
 
 -- empty where the scan would be refused as 3 or 6
@@ -99,12 +104,19 @@ pub record RangeValueSays (range : Range) (s e : Bytes) (m : List Pair) (v : Byt
   pub refused : (Allowed range s e → ⊥) → v ≡ []
 
 -- scan_prefix: of the keys made of bytes exactly those that begin with the prefix are in the range that the caller then has
+pub record PrefixLies (p out now-out : Bytes) (x : Span) : Type 0 where
+  pub exact : (k : Bytes) → All Byte k → Exact (inRange (x .range) p (take (x .end) now-out) k) (Begins p k)
+  pub fits : x .end ≤ length out
+  pub rest : drop (x .end) now-out ≡ drop (x .end) out
+  pub same-length : length now-out ≡ length out
+  pub short-prefix : Short p
+
 pub data PrefixRefused (p out : Bytes) : Refusal → Type 0 where
   long-prefix : keyLimit < length p → PrefixRefused p out LongKey
   short-end : (e : Bytes) → prefixEnd p ≡ some e → length out < length e → PrefixRefused p out (ShortOutput (length e))
 
 abbrev pub PrefixSays : (p out now-out : Bytes) → Prefixed → Type 0
-PrefixSays p out now-out (Made x) = (k : Bytes) → All Byte k → Exact (inRange (x .range) p (take (x .end) now-out) k) (Begins p k)
+PrefixSays p out now-out (Made x) = PrefixLies p out now-out x
 PrefixSays p out now-out (prefixed.Refused x) = PrefixRefused p out x × (now-out ≡ out)
 
 -- the old value at the output's front and the rest of the output as it was, or none; a refusal for one of the reasons that `why` allows
@@ -112,11 +124,13 @@ pub record OldLies (k : Bytes) (m : List Pair) (out now-out : Bytes) (n : ℕ) :
   pub found : lookup k m ≡ some (take n now-out)
   pub fits : n ≤ length out
   pub rest : drop n now-out ≡ drop n out
+  pub same-length : length now-out ≡ length out
 
-abbrev pub OldSays : Bytes → List Pair → (out now-out : Bytes) → (why : Refusal → Type 0) → Old → Type 0
-OldSays k m out now-out why (old.Value n) = OldLies k m out now-out n
-OldSays k m out now-out why old.Nothing = (lookup k m ≡ none) × (now-out ≡ out)
-OldSays k m out now-out why (old.Refused x) = why x × (now-out ≡ out)
+-- accepted only where `may` holds
+abbrev pub OldSays : Bytes → List Pair → (out now-out : Bytes) → (may : Type 0) → (why : Refusal → Type 0) → Old → Type 0
+OldSays k m out now-out may why (old.Value n) = OldLies k m out now-out n × may
+OldSays k m out now-out may why old.Nothing = (lookup k m ≡ none) × ((now-out ≡ out) × may)
+OldSays k m out now-out may why (old.Refused x) = why x × (now-out ≡ out)
 
 pub data OldRefused (k : Bytes) (m : List Pair) (out : Bytes) : Refusal → Type 0 where
   long-key : keyLimit < length k → OldRefused k m out LongKey
@@ -151,7 +165,7 @@ ReadSays (scan-prefix p out now-out r o) ns m = PrefixSays p out now-out r
 -- each call; `clear` is never refused
 abbrev pub Says : {s t : State} → Call s t → List Node → List Pair → Type 0
 Says (read c) ns m = ReadSays c ns m
-Says {s} (insert k v out r after o) ns m = OldSays k m out (after .out) (InsertRefused (s .header .fanout) (length (s .dir)) (length (s .arena)) k v ns m out) (r .old)
-Says (remove k out r after o) ns m = OldSays k m out (after .out) (OldRefused k m out) (r .old)
+Says {s} (insert k v out r after o) ns m = OldSays k m out (after .out) (Short k × (length v ≤ valueLimit)) (InsertRefused (s .header .fanout) (length (s .dir)) (length (s .arena)) k v ns m out) (r .old)
+Says (remove k out r after o) ns m = OldSays k m out (after .out) (Short k) (OldRefused k m out) (r .old)
 Says (clear now-dir now-slots r o) ns m = r .answer ≡ Done
 Says {s} (create fanout now-dir now-slots r o) ns m = CreateSays fanout (length (s .dir)) (length (s .slots)) (length (s .arena)) (r .answer)

@@ -1,19 +1,23 @@
--- Refused, an entry leaves the lent header as it came, and every lent word and byte as it was.
+-- Refused, an entry leaves the lent header as it came, and every lent word and byte as it was; and so does `remove` of an absent key.
 -- Assumes nothing.
 use Prim.Native.Nat.{ℕ}
 use mathlib.Core.Bool.{true}
 use mathlib.Core.List.{List}
 use mathlib.Core.Option.{Option, none, some}
-use mathlib.Core.Path.{_≡_, subst}
+use mathlib.Core.Path.{_∙_, _≡_, ap, refl, subst, sym}
 use lib.ListN.{length}
 use Rattle.changes.specs.Outcomes.{ChangedBy, Lent, oldTold}
 use Rattle.changes.specs.declared.Old.{Old}
 use Rattle.changes.specs.declared.Old.the-variants.{Nothing, Refused, Value}
 use Rattle.kernel.specs.Coincide.{answered, changed}
+use Rattle.layout.specs.Lays.{W}
 use Rattle.layout.specs.declared.Header.{Header}
 use Rattle.model.specs.Answers.{Answer, accepted, clearAnswer, insertAnswer, refused, removeAnswer}
 use Rattle.model.specs.Answers as model
-use Rattle.model.specs.Leaves.{Node}
+use Rattle.model.specs.Charge.{charge}
+use Rattle.model.specs.Leaves.{Node, pairsOf}
+use Rattle.model.specs.Map.{lookup}
+use Rattle.model.specs.PairLaws.{lookup-owned, remove-absent}
 use Rattle.model.specs.declared.Refusal.{Refusal}
 use Rattle.model.specs.declared.Refusal.the-variants.{Damaged}
 use Rattle.order.specs.Bytes.{Bytes}
@@ -22,6 +26,7 @@ use Rattle.tree_create.specs.declared.Change.{Change}
 use Rattle.tree_create.specs.declared.Change.the-variants as change
 use Rattle.tree_insert.specs.Outcomes.{InsertOutcome}
 use Rattle.tree_read.specs.Decided.{dec-w}
+use Rattle.tree_remove.specs.Kept.{removed-nodes}
 use Rattle.tree_remove.specs.Outcomes.{RemoveOutcome}
 
 -- no accepted answer is told as a refusal
@@ -72,3 +77,23 @@ clear-refused h dir slots arena x o =
       | yes w ↦ by-fresh (clearAnswer (w .nodes)) (h .fanout) h dir slots arena x (o .held w)
       | no n ↦ by-fresh (refused Damaged) (h .fanout) h dir slots arena x (o .damaged n)
     ]
+
+-- and where the key to remove is absent
+
+absent-header : (h : Header) (k : Bytes) (before : Lent) (w : W h (before .dir) (before .slots) (before .arena)) → lookup k (pairsOf (w .nodes)) ≡ none
+    → (m : Answer model.Changed) → removeAnswer true k (length (before .out)) (w .nodes) ≡ m → (g : Header) (a : Old) (l : Lent) → ChangedBy m h before (changed g a) l → g ≡ h
+absent-header h k before w e (refused x) q g a l b = b .header-is
+absent-header h k before w e (accepted c) q g a l b =
+    let n : c .nodes ≡ w .nodes =
+    sym (removed-nodes k (length (before .out)) (w .nodes) c q) ∙ remove-absent true k (w .nodes) (lookup-owned k (w .nodes) (w .good .tiles) ∙ e) in
+    λ i. record {
+      fanout = b .fanout-is i;
+      leaves = (b .holds .leaves-are ∙ ap length n ∙ sym (w .holds .leaves-are)) i;
+      pairs = (b .holds .pairs-are ∙ ap (λ (ns : List Node). length (pairsOf ns)) n ∙ sym (w .holds .pairs-are)) i;
+      charge = (b .holds .charge-is ∙ ap charge n ∙ sym (w .holds .charge-is)) i;
+    }
+
+pub absent-kept : (h : Header) (k : Bytes) (before : Lent) (w : W h (before .dir) (before .slots) (before .arena)) → lookup k (pairsOf (w .nodes)) ≡ none
+    → {g : Header} {a : Old} {l : Lent} → RemoveOutcome h k before (changed g a) l → (g ≡ h) × (l ≡ before)
+absent-kept h k before w e {g} {a} {l} o =
+    (absent-header h k before w e (removeAnswer true k (length (before .out)) (w .nodes)) refl g a l (o .held w .changed), o .held w .absent e)

@@ -80,7 +80,7 @@ pub record Filled (f : Fed) (out : List ℕ) : Type 0 where
 abbrev pub ended : Carried → (failed : Bool) → Carried
 ended c failed = record { session = c .session; held = c .held; more = false; failed = failed }
 
--- a write that failed ends the input, and nothing else does
+-- the input ends here exactly where a write is said to have failed
 pub record Kept (f : Fed) (r : Carried) : Type 0 where
   pub session-is : r .session ≡ f .session
   pub held-is : r .held ≡ f .held
