@@ -6,7 +6,7 @@ use mathlib.Core.Path.{_≡_, refl, sym, ap, subst, _∙_}
 use native.Mathlib.Omega.{arith}
 use lib.ListN.{getD, length, set, length-append, length-set}
 use Rattle.lists.specs.Fill.{Filling, fill-done, fill-step}
-use Rattle.lists.specs.Part.{put, length-put, put-append, put-one}
+use Rattle.lists.specs.Part.{put-append, put-one}
 use Rattle.order.specs.Bytes.{Bytes}
 use Rattle.lines.specs.Grammar.{Number, _␣_, bytesText, digitOf, hexOf, numberText}
 use Rattle.lines.specs.HexLaws.{hex-first, hex-length, hex-second, hexed}
@@ -15,9 +15,6 @@ use Rattle.answers.specs.Answers.{Room, Wrote, badWord, countsText, line
 
 pub wrote-byte : (out : Bytes) (at b : ℕ) → at + 1 ≤ length out → Wrote out (set out at b) at (b ∷ []) (at + 1)
 wrote-byte out at b h = record { is = put-one out at b (omega arith); behind = refl; long = length-set out at b }
-
-pub wrote-put : (out out′ : Bytes) (at : ℕ) (t : Bytes) (r : ℕ) → Room out at t → out′ ≡ put out at t → r ≡ at + length t → Wrote out out′ at t r
-wrote-put out out′ at t r h e f = record { is = e; behind = f; long = ap length e ∙ length-put out at t h }
 
 pub wrote-is : {out out′ : Bytes} {at r : ℕ} {t u : Bytes} → Wrote out out′ at t r → t ≡ u → Wrote out out′ at u r
 wrote-is {out} {out′} {at} {r} w e = subst (λ (s : Bytes). Wrote out out′ at s r) e w

@@ -14,7 +14,7 @@ use lib.Seq.{take-take}
 use Rattle.layout.specs.Buffers.{Buffers, lowAt, lowWord, pairAt, slotWords, suffixAt, valueAt}
 use Rattle.layout.specs.Lays.{LaysAt, LaysEach, LaysLeaf}
 use Rattle.layout.specs.LaysLaws.{each-induct}
-use Rattle.layout.specs.Order.{Extent, InOrder, extents, leafWords, wordExtent, wordsOf}
+use Rattle.layout.specs.Order.{Extent, InOrder, leafWords, wordExtent, wordsOf}
 use Rattle.layout.specs.OrderLaws.{order-top, gap-frame}
 use Rattle.lists.specs.All.{All, all-left, all-right}
 use Rattle.lists.specs.Part.{getD-put-after, getD-put-before, part, part-part, part-put-after, part-put-before, put, length-put}
@@ -101,9 +101,6 @@ module _ (b c : Buffers) where
   pub same-words : (ds : List ℕ) → All (SameLeaf b c) ds → wordsOf c ds ≡ wordsOf b ds
   same-words [] s = refl
   same-words (d ∷ ds) s = rw (s .0 .same .low-word, s .0 .same .words, same-words ds (s .1))
-
-  pub same-extents : (ds : List ℕ) → All (SameLeaf b c) ds → extents c ds ≡ extents b ds
-  same-extents ds s = ap (map wordExtent) (same-words ds s)
 
   pub same-leaves : (ds : List ℕ) → All (SameWords b c) ds → All (SameBytes (b .arena) (c .arena)) (wordsOf b ds) → All (SameLeaf b c) ds
   same-leaves [] s h = tt

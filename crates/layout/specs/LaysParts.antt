@@ -27,9 +27,6 @@ module _ (b : Buffers) where
   words-append [] es = refl
   words-append (d ∷ ds) es = rw (words-append ds es) (sym (append-assoc (leafWords b d) (wordsOf b ds) (wordsOf b es)))
 
-  pub extents-append : (ds es : List ℕ) → extents b (ds ++ es) ≡ extents b ds ++ extents b es
-  extents-append ds es = rw (words-append ds es) (map-append wordExtent (wordsOf b ds) (wordsOf b es))
-
   pub words-at : (P : ℕ → Type 0) (j : ℕ) (ds : List ℕ) → j < length ds → All P (wordsOf b ds) → All P (leafWords b (getD ds j 0))
   words-at P j [] h a = absurd (omega arith)
   words-at P zero (d ∷ ds) h a = all-left P (leafWords b d) (wordsOf b ds) a

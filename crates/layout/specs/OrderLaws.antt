@@ -3,7 +3,7 @@
 -- Assumes nothing.
 use Prim.Native.Nat.{_+_, _≤_, ℕ}
 use mathlib.Core.List.{List, [], _++_, _∷_}
-use mathlib.Core.Path.{_≡_, refl}
+use mathlib.Core.Path.{_≡_}
 use native.Mathlib.Omega.{arith}
 use lib.ListN.{length}
 use Rattle.layout.specs.Order.{Extent, InOrder}
@@ -46,10 +46,6 @@ pub order-right : (a : ℕ) (l r : List Extent) (top : ℕ) → InOrder a (l ++ 
 order-right a [] r top h = h
 order-right a (e ∷ l) r top h = order-right (e .at + e .size) l r top (h .1)
 
-pub end-append : (a : ℕ) (l r : List Extent) → endOf a (l ++ r) ≡ endOf (endOf a l) r
-end-append a [] r = refl
-end-append a (e ∷ l) r = end-append (e .at + e .size) l r
-
 pub order-end : (a : ℕ) (es : List Extent) (top : ℕ) → InOrder a es top → endOf a es ≤ top
 order-end a [] top h = h
 order-end a (e ∷ es) top h = order-end (e .at + e .size) es top (h .1)
@@ -83,13 +79,6 @@ order-remove a l m r top h =
     let u = order-right a l (m ++ r) top h in
     order-append a l r (endOf a l) top (order-left a l (m ++ r) top h)
     (order-widen (endOf (endOf a l) m) (endOf a l) r top top (order-top (endOf a l) m (endOf (endOf a l) m) (order-left (endOf a l) m r top u)) (omega arith) (order-right (endOf a l) m r top u))
-
--- some parts replaced by others that lie between the same neighbours
-pub order-replace : (a : ℕ) (l m n r : List Extent) (top : ℕ) → InOrder a (l ++ (m ++ r)) top → InOrder (endOf a l) n (endOf (endOf a l) m) → InOrder a (l ++ (n ++ r)) top
-order-replace a l m n r top h k =
-    let u = order-right a l (m ++ r) top h in
-    order-append a l (n ++ r) (endOf a l) top (order-left a l (m ++ r) top h)
-    (order-append (endOf a l) n r (endOf (endOf a l) m) top k (order-right (endOf a l) m r top u))
 
 -- a write into a gap, at x, after the parts l and before the parts r
 pub gap-frame : (arena : List ℕ) (x : ℕ) (bytes : List ℕ) (l r : List Extent) (top : ℕ) → InOrder 0 l x → InOrder (x + length bytes) r top → top ≤ length arena

@@ -18,16 +18,13 @@ use Rattle.lists.specs.All.{all-mono, All}
 use Rattle.lists.specs.Part.{length-part, part, take-drop, put}
 use Rattle.model.specs.Leaves.{Node}
 use Rattle.order.specs.Bytes.{Bytes}
-use Rattle.words.specs.Words.{wordCount, slotWord, wordOffset, wordSuffix, wordValue}
+use Rattle.words.specs.Words.{wordCount, wordOffset, wordSuffix, wordValue}
 
 -- offset up by g, suffix length down by g
 abbrev pub shifted : (g w : ℕ) → ℕ
 shifted g w = w + g * (2 ^ 36 - 2 ^ 24)
 
 module _ (g w : ℕ) (h : g ≤ wordSuffix w) where
-  pub shifted-is : shifted g w ≡ slotWord (wordOffset w + g) (wordSuffix w - g) (wordValue w)
-  shifted-is = omega arith
-
   pub offset-shifted : wordOffset (shifted g w) ≡ wordOffset w + g
   offset-shifted = omega arith
 

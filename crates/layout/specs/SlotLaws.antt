@@ -64,12 +64,6 @@ module _ {b : Buffers} {fs : List ℕ} {d : ℕ} {bs qs : List ℕ} {p : ℕ} {r
       (rw (map-append wordExtent (wordsBefore b fs d j) (w ∷ wordsBehind b d bs j))
       (order-insert 0 (map wordExtent (wordsBefore b fs d j)) (map wordExtent (wordsBehind b d bs j)) (wordExtent w) (length arena) x y))
 
-  -- no bytes written
-  pub put-in-only : arena ≡ b .arena
-      → WordsIn 0 (wordsBefore b fs d j) (wordOffset w) → WordsIn (wordOffset w + (wordSuffix w + wordValue w)) (wordsBehind b d bs j) (length (b .arena))
-      → LaysAround (rewritten b slots arena) fs e bs qs p rs l (withPairs n (take j (n .pairs) ++ (pairAt arena (take p (n .low)) w ∷ drop j (n .pairs)))) r
-  put-in-only same x y = put-in (all-of (λ v. rw same) (wordsBefore b fs d j)) (all-of (λ v. rw same) (wordsBehind b d bs j)) x (rw same y)
-
   -- its suffix and value written too
   pub put-in-written : (suffix value : Bytes) → arena ≡ put (b .arena) (wordOffset w) (suffix ++ value) → wordSuffix w ≡ length suffix → wordValue w ≡ length value
       → WordsIn 0 (wordsBefore b fs d j) (wordOffset w) → WordsIn (wordOffset w + (wordSuffix w + wordValue w)) (wordsBehind b d bs j) (length (b .arena))
@@ -129,12 +123,6 @@ module _ {b : Buffers} {fs : List ℕ} {d : ℕ} {bs qs : List ℕ} {p : ℕ} {r
       (rw (same-pairs (b .arena) arena (take p (n .low)) (drop (suc j) ws) (all-left (SameBytes (b .arena) arena) (drop (suc j) ws) (wordsOf b bs) kr), map-drop g (suc j) ws, h .here .pairs-are))
       (rw (map-append wordExtent (wordsBefore b fs d j) (w ∷ wordsBehind b d bs (suc j)))
       (order-insert 0 (map wordExtent (wordsBefore b fs d j)) (map wordExtent (wordsBehind b d bs (suc j))) (wordExtent w) (length arena) x y))
-
-  -- no bytes written
-  pub replace-only : arena ≡ b .arena
-      → WordsIn 0 (wordsBefore b fs d j) (wordOffset w) → WordsIn (wordOffset w + (wordSuffix w + wordValue w)) (wordsBehind b d bs (suc j)) (length (b .arena))
-      → LaysAround (rewritten b slots arena) fs d bs qs p rs l (withPairs n (take j (n .pairs) ++ (pairAt arena (take p (n .low)) w ∷ drop (suc j) (n .pairs)))) r
-  replace-only same x y = replace-word (all-of (λ v. rw same) (wordsBefore b fs d j)) (all-of (λ v. rw same) (wordsBehind b d bs (suc j))) x (rw same y)
 
   -- bytes written at x
   pub replace-written : (x : ℕ) (bytes : List ℕ) → arena ≡ put (b .arena) x bytes

@@ -25,7 +25,7 @@ pub enum Line {
     Bad,
 }
 
-pub enum Decimal {
+enum Decimal {
     Is(usize),
     Not,
 }

@@ -68,6 +68,3 @@ clear-each ns t f = remove-all (pairsOf ns) ns t f refl
 
 pub clear-same : {B : Bounds} (ns : List Node) → Tiles B ns → Filled ns → firstNumber ns ≡ 0 → removeEach (pairsOf ns) ns ≡ clearRule ns
 clear-same ns t f e = clear-each ns t f ∙ rw e
-
-pub clear-pairs : (ns : List Node) → pairsOf (clearRule ns) ≡ []
-clear-pairs ns = refl

@@ -13,16 +13,13 @@ use Rattle.model.specs.Good.{Fits}
 use Rattle.model.specs.Leaves.{Node, atOwner, owned}
 use Rattle.model.specs.Map.{put}
 use Rattle.model.specs.Numbers.{insert-distinct, insert-numbers, lowest-below, remove-distinct, remove-numbers}
-use Rattle.model.specs.Rules.{clearRule, fresh, insertRule, removeRule}
+use Rattle.model.specs.Rules.{fresh, insertRule, removeRule}
 use Rattle.model.specs.SizeLaws.{uncut, cuts, cutting, insert-count, remove-charge, remove-count}
 use Rattle.order.specs.Bytes.{Bytes}
 
 pub fresh-fits : (pool arena : ℕ) → 1 ≤ pool → Fits pool arena fresh
 unfolding charge weight
 fresh-fits pool arena h = record { counted = h; in-pool = (h, tt); distinct = (tt, tt); charged = omega arith }
-
-pub clear-fits : (pool arena : ℕ) (ns : List Node) → 1 ≤ pool → Fits pool arena (clearRule ns)
-clear-fits pool arena ns h = fresh-fits pool arena h
 
 -- not refused 7: where the insert makes F pairs, a leaf is free
 pub free-leaf : (F pool : ℕ) (k v : Bytes) (ns : List Node) → noLeaf F pool k v ns ≡ false → length (put k v (owned k ns)) ≡ F

@@ -9,7 +9,7 @@ use lib.ListN.{drop, getD, length, take}
 use Rattle.lists.specs.All.{All, all-at}
 use Rattle.model.specs.Map.{Above, Below, Pair, Rising, by, lookup, pair, put, remove}
 use Rattle.order.specs.Bytes.{Bytes, _≺_, cmp}
-use Rattle.order.specs.OrderLaws.{after, before, below-trans, cmp-after, cmp-before, cmp-drop, cmp-equal, equal, tri}
+use Rattle.order.specs.OrderLaws.{after, before, cmp-after, cmp-before, cmp-drop, cmp-equal, equal, tri}
 
 -- the key is the one at a place, or would stand before it
 pub data Place : Type 0 where
@@ -98,19 +98,6 @@ unfolding place
 place-gap d k [] j h a e = absurd (omega arith)
 place-gap d k (p ∷ m) zero h a e = rw (cmp-before e)
 place-gap d k (p ∷ m) (suc j) h a e = rw (cmp-after (a .0)) (rw (place-gap d k m j (omega arith) (a .1) e))
-
--- in a rising list one key below k shows it of all before it: for a search that halves
-pub take-below : (d : Pair) (k : Bytes) (m : List Pair) (j : ℕ) → j < length m → Rising m → (getD m j d) .key ≺ k → All (Below k) (take (suc j) m)
-take-below d k [] j h r l = absurd (omega arith)
-take-below d k (p ∷ m) zero h r l = (l, tt)
-take-below d k (p ∷ m) (suc j) h r l =
-    let t = take-below d k m j (omega arith) (r .1) l in
-    (below-trans (first-of m j (omega arith) (r .0)) l, t)
-  where
-    first-of : (m : List Pair) (j : ℕ) → j < length m → All (Above (p .key)) m → p .key ≺ (getD m j d) .key
-    first-of [] j h a = absurd (omega arith)
-    first-of (q ∷ m) zero h a = a .0
-    first-of (q ∷ m) (suc j) h a = first-of m j (omega arith) (a .1)
 
 -- each key of a rising list stands at its own place
 pub place-of : (d : Pair) (m : List Pair) (j : ℕ) → j < length m → Rising m → place ((getD m j d) .key) m ≡ at j

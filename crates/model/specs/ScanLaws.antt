@@ -44,9 +44,6 @@ module _ (r : Range) (s e : Bytes) where
   pub first-none : (l m : List Pair) → firstIn r s e l ≡ none → firstIn r s e (l ++ m) ≡ firstIn r s e m
   first-none l m h = first-append l m ∙ rw h
 
-  pub first-some : (l m : List Pair) (p : Pair) → firstIn r s e l ≡ some p → firstIn r s e (l ++ m) ≡ some p
-  first-some l m p h = first-append l m ∙ rw h
-
   -- none where every key is out of the range
   pub first-out : (l : List Pair) → All (Out r s e) l → firstIn r s e l ≡ none
   unfolding firstIn

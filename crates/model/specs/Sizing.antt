@@ -2,7 +2,7 @@
 -- most P pairs is refused neither 7 nor 8. K and V (here kmost and vmost) bind this insert and every insert of the past: a low key is cut
 -- from an inserted key, and outlives it.
 -- Assumes nothing.
-use Prim.Native.Nat.{_*_, _+_, _≤_, suc, ℕ}
+use Prim.Native.Nat.{_*_, _+_, _≤_, ℕ}
 use mathlib.Core.Bool.{Bool, false, true}
 use mathlib.Core.List.{List, [], _∷_}
 use mathlib.Core.Path.{_≡_, ap}
@@ -50,10 +50,6 @@ module _ (F kmost vmost : ℕ) (three : 3 ≤ F) where
   reached-filled (inserted {ns} k v hk hv r) = insert-filled F k v ns three (reached-filled r)
   reached-filled (removed {ns} k r) = remove-filled k ns (reached-filled r)
   reached-filled (cleared r) = tt
-
-  -- leaves outnumber pairs by one at most
-  pub reached-leaves : {ns : List Node} → Reached F kmost vmost ns → length ns ≤ suc (length (pairsOf ns))
-  reached-leaves {ns} r = leaves-pairs ns (reached-filled r)
 
 -- the charge of a tiled list of at most P pairs
 

@@ -11,7 +11,7 @@ use Rattle.layout.specs.LaysWords.{holds-at}
 use Rattle.layout.specs.Presumed.{Presumed}
 use Rattle.layout.specs.declared.Header.{Header}
 use Rattle.model.specs.Leaves.{Node, node}
-use Rattle.model.specs.Numbers.{lowest-free, lowest-least, lowest-near}
+use Rattle.model.specs.Numbers.{lowest-free, lowest-least}
 use Rattle.model.specs.Rules.{lowestFree, used}
 use Rattle.numbers.specs.BitLaws.{bit-zero, marked-itself, marked-others}
 use Rattle.numbers.specs.Bits.{FirstUnmarked, Marked, Sets, bitOf}
@@ -133,10 +133,6 @@ module _ {leaves : ℕ} {dir seen : List ℕ} {r : ℕ} (m : Marks leaves dir se
 
 pub free-end : {leaves j : ℕ} {dir seen : List ℕ} {r : ℕ} → Marks j dir seen → j ≤ leaves → leaves ≤ j → FirstUnmarked seen r → FreeRead leaves dir r
 free-end {leaves} {j} m h k f = let e : j ≡ leaves = omega arith in free-read (rw e at m) f
-
--- what a caller knows of the number read
-pub free-near : {leaves : ℕ} {dir : List ℕ} {ns : List Node} {r : ℕ} → FreeRead leaves dir r → Numbered leaves dir ns → r ≤ leaves
-free-near {ns = ns} f x = omega (arith, f .lowest ns x, lowest-near ns, x .leaves-are)
 
 -- of a leaf list that is presumed, the directory has the numbers
 pub presumed-numbered : {h : Header} {dir slots arena : List ℕ} {ns : List Node} → Presumed h dir slots arena ns → Numbered (h .leaves) dir ns

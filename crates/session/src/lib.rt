@@ -48,7 +48,7 @@ pub struct Replied {
 }
 
 // A header and the place behind what was written.
-pub struct Served {
+struct Served {
     pub header: Header,
     pub at: usize,
 }

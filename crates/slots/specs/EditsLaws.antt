@@ -1,19 +1,16 @@
--- The words that each edit leaves lay out the leaf list that it says; and a leaf laid out is ready for it.
+-- The words that each edit leaves lay out the leaf list that it says.
 -- Assumes nothing.
 use Prim.Native.Nat.{ℕ, suc, _+_, _-_, _^_, _≤_, _<_}
 use mathlib.Core.List.{List, [], _∷_, _++_, map}
 use mathlib.Core.Path.{_≡_, _∙_, ap, refl, sym}
 use native.Mathlib.Omega.{arith}
 use lib.ListN.{getD, length, length-map, take, drop}
-use Rattle.layout.specs.AroundLaws.{wordsBehind, LaysAround, inside-here}
+use Rattle.layout.specs.AroundLaws.{LaysAround, inside-here}
 use Rattle.layout.specs.Buffers.{lowWord, valuePlace, Buffers, lowAt, slotWords, suffixAt}
-use Rattle.layout.specs.EditLaws.{words-long}
-use Rattle.layout.specs.Order.{wordExtent}
-use Rattle.layout.specs.OrderLaws.{order-top}
 use Rattle.layout.specs.RegionLaws.{owns-kept}
 use Rattle.layout.specs.ShiftLaws.{Leads, shift-leaf, shift-ready, shifted}
 use Rattle.layout.specs.SlotLaws.{put-in-written, replace-value, take-out}
-use Rattle.lists.specs.All.{all-at, All}
+use Rattle.lists.specs.All.{All}
 use Rattle.lists.specs.Part.{getD-part, length-part, length-put, part, put}
 use Rattle.model.specs.Leaves.{withPairs}
 use Rattle.model.specs.Map.{pair}
@@ -36,11 +33,6 @@ module _ (d count : ℕ) (h : count < 2 ^ 20) where
   counted-count = count-of-directory (wordLeaf d) count h
 
 -- a pair taken out
-
-pub takes-of : (fanout : ℕ) (dir slots arena : List ℕ) (j i : ℕ) (a : Around (over fanout slots arena) (getD dir j 0)) → j < length dir → i < length (a .leaf .pairs)
-    → Takes fanout dir slots j i
-takes-of fanout dir slots arena j i a h k =
-    record { place = h; region = region-of (over fanout slots arena) (getD dir j 0) a; slot = rw (a .lays .here .count-is) k }
 
 pub taken-out : {fanout : ℕ} {dir slots : List ℕ} {j i : ℕ} {now-dir now-slots : List ℕ} → Takes fanout dir slots j i
     → now-dir ≡ put dir j (counted (getD dir j 0) (wordCount (getD dir j 0) - 1) ∷ [])
@@ -140,19 +132,6 @@ pub word-here : (fanout : ℕ) (slots arena : List ℕ) (d i : ℕ) → i < word
 unfolding slotWords
 word-here fanout slots arena d i h = sym (getD-part slots (firstSlot fanout (wordLeaf d)) (wordCount d) i 0 h)
 
-pub replaces-of : (fanout : ℕ) (slots arena : List ℕ) (d i : ℕ) (value : Bytes) (a : Around (over fanout slots arena) d) → i < length (a .leaf .pairs)
-    → length value ≤ wordValue (getD slots (slotOf fanout d i) 0) → Replaces fanout slots arena d i value
-replaces-of fanout slots arena d i value a h k =
-    let few : i < wordCount d = rw (a .lays .here .count-is) h in
-    let w = getD slots (slotOf fanout d i) 0 in
-    let in-arena : wordOffset w + (wordSuffix w + wordValue w) ≤ length arena =
-    rw (← word-here fanout slots arena d i few) at
-    (all-at (λ w. wordOffset w + (wordSuffix w + wordValue w) ≤ length arena) (slotWords (over fanout slots arena) d) i 0 (rw (words-long (a .lays .here)) few) ((inside-here (a .lays)) .1)) in
-    record { region = region-of (over fanout slots arena) d a; slot = few; inside = within (wordOffset w) (wordSuffix w) (wordValue w) k in-arena; not-longer = k }
-  where
-    within : (o s v : ℕ) → length value ≤ v → o + (s + v) ≤ length arena → o + s + length value ≤ length arena
-    within o s v h k = omega arith
-
 pub replaced : {fanout : ℕ} {slots arena : List ℕ} {d i : ℕ} {value : Bytes} {now-slots now-arena : List ℕ} → Replaces fanout slots arena d i value
     → now-slots ≡ put slots (slotOf fanout d i) (valued (getD slots (slotOf fanout d i) 0) (length value) ∷ [])
     → now-arena ≡ put arena (valuePlace (getD slots (slotOf fanout d i) 0)) value → Replaced fanout slots arena d i value now-slots now-arena
@@ -180,32 +159,6 @@ replaced {fanout} {slots} {arena} {d} {i} {value} {now-slots} {now-arena} t s m 
     one first c h k m = omega arith
 
 -- a pair put in
-
-pub puts-of : (fanout : ℕ) (dir slots arena : List ℕ) (j i at : ℕ) (suffix value : Bytes) (a : Around (over fanout slots arena) (getD dir j 0)) → j < length dir
-    → i ≤ length (a .leaf .pairs) → length (a .leaf .pairs) + 1 < fanout → fanout ≤ 2 ^ 20 → length arena < 2 ^ 28 → length suffix < 2 ^ 12 → length value < 2 ^ 24
-    → Gap (over fanout slots arena) (a .ahead) (getD dir j 0) (a .behind) i at (length suffix + length value) → Puts fanout dir slots arena j i at suffix value
-puts-of fanout dir slots arena j i at suffix value a h k few top small hs hv g =
-    let d = getD dir j 0 in
-    let room : wordCount d + 1 < fanout = rw (a .lays .here .count-is) few in
-    let in-arena : at + (length suffix + length value) ≤ length arena =
-    order-top _ (map wordExtent (wordsBehind (over fanout slots arena) d (a .behind) i)) _ (g .before) in
-    record {
-      place = h;
-      region = region-of (over fanout slots arena) d a;
-      slot = rw (a .lays .here .count-is) k;
-      room = room;
-      count-fits = below (wordCount d) room;
-      inside = in-arena;
-      offset-fits = under (length suffix + length value) in-arena;
-      suffix-fits = hs;
-      value-fits = hv;
-    }
-  where
-    below : (c : ℕ) → c + 1 < fanout → c + 1 < 2 ^ 20
-    below c h = omega arith
-
-    under : (n : ℕ) → at + n ≤ length arena → at < 2 ^ 28
-    under n h = omega arith
 
 put-in-lays : {fanout : ℕ} {slots arena : List ℕ} {d : ℕ} (i at w : ℕ) (suffix value : Bytes) (now-slots now-arena : List ℕ) (a : Around (over fanout slots arena) d)
     → i ≤ wordCount d → wordCount d + 1 < fanout → wordCount d + 1 < 2 ^ 20

@@ -33,7 +33,7 @@ use Rattle.spots.specs.Spots.{SpotIn}
 use Rattle.spots.specs.declared.Spot.{Spot}
 use Rattle.tree_insert.specs.Outcomes.{CanFit, CanReplaceOld, InsertInner, ReplacedOld, SplitIfFull}
 use Rattle.tree_insert.specs.PassedLaws.{replaces-passed}
-use Rattle.tree_insert.specs.declared.Placed.{Placed}
+use Rattle.tree_insert.specs.declared.inner.Placed.{Placed}
 
 -- the pair that is there, or that none is
 

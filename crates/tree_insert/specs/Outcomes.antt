@@ -19,7 +19,7 @@ use Rattle.model.specs.declared.Refusal.the-variants.{Damaged}
 use Rattle.order.specs.Bytes.{Bytes}
 use Rattle.pair_edit.specs.PairEdits.{Inserts}
 use Rattle.spots.specs.declared.Spot.{Spot}
-use Rattle.tree_insert.specs.declared.Placed.{Placed}
+use Rattle.tree_insert.specs.declared.inner.Placed.{Placed}
 
 -- the model's answer on a leaf list
 abbrev pub InsertBy : Header → (k v : Bytes) → (before : Lent) → Changed → (after : Lent) → List Node → Type 0

@@ -2,7 +2,6 @@
 ghost use Rattle.changes.specs.Outcomes.{lent};
 ghost use Rattle.layout.specs.Presumed.{Index};
 ghost use Rattle.tree_insert.specs.Outcomes.{CanFit, CanReplaceOld, InsertInner, ReplacedOld, SplitIfFull};
-use super::Placed;
 use changes::Changed;
 use changes::Old;
 use changes::write_old;
@@ -15,6 +14,12 @@ use pair_edit::remove_pair;
 use pair_edit::replace_pair;
 use split::split_leaf;
 use spots::Spot;
+
+// Where a new pair goes, in an index that has room for it.
+struct Placed {
+    header: Header,
+    spot: Spot,
+}
 
 // L3: where the new pair makes F pairs, its leaf is split before it is written, as planned on all F; then it goes to the half that owns it.
 fn split_if_full(

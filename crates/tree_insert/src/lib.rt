@@ -8,14 +8,7 @@ use changes::Changed;
 use changes::Old;
 use layout::Header;
 use model::Refusal;
-use spots::Spot;
 use tree_read::check::holds_index;
-
-// Where a new pair goes, in an index that has room for it.
-pub struct Placed {
-    pub header: Header,
-    pub spot: Spot,
-}
 
 pub fn insert(
     h: Header,

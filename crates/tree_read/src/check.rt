@@ -33,7 +33,7 @@ use words::pair_count;
 use words::unpack_low_key;
 use words::unpack_slot;
 
-pub enum Low {
+enum Low {
     Read(LowKey),
     Unsound,
 }
@@ -44,12 +44,12 @@ pub struct Sum {
     pub charge: usize,
 }
 
-pub enum Pass {
+enum Pass {
     Sound(Sum),
     Failed,
 }
 
-pub enum Next {
+enum Next {
     Known(Upper),
     Unread,
 }
@@ -62,7 +62,7 @@ pub struct State {
     pub charge: usize,
 }
 
-pub enum Step {
+enum Step {
     Went(State),
     Stopped,
 }

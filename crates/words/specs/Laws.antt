@@ -27,9 +27,6 @@ module _ (offset suffix value : ℕ) (hs : suffix < 2 ^ 12) (hv : value < 2 ^ 24
 pub slot-of-fields : (w : ℕ) → slotWord (wordOffset w) (wordSuffix w) (wordValue w) ≡ w
 slot-of-fields w = omega arith
 
-pub offset-small : (w : ℕ) → w < 2 ^ 64 → wordOffset w < 2 ^ 28
-offset-small w h = omega arith
-
 pub suffix-small : (w : ℕ) → wordSuffix w < 2 ^ 12
 suffix-small w = omega arith
 
@@ -54,9 +51,6 @@ module _ (leaf count : ℕ) (h : count < 2 ^ 20) where
 
 pub directory-of-fields : (w : ℕ) → directoryWord (wordLeaf w) (wordCount w) ≡ w
 directory-of-fields w = omega arith
-
-pub leaf-small : (w : ℕ) → w < 2 ^ 32 → wordLeaf w < 2 ^ 12
-leaf-small w h = omega arith
 
 pub count-small : (w : ℕ) → wordCount w < 2 ^ 20
 count-small w = omega arith
