@@ -18,11 +18,14 @@ fn bytes_up(a: &mut [u8], from: usize, n: usize, to: usize)
     }
 }
 
-// The same from the front.
+// The same from the front. Bytes that stand at their place already are not written.
 fn bytes_down(a: &mut [u8], from: usize, n: usize, to: usize)
     requires { ⌜ (to ≤ from) × (from + n ≤ length (now a)) ⌝ }
     ensures { λ _. ⌜ now (a .exit) ≡ put (now (a .entry)) to (part (now (a .entry)) from n) ⌝ }
 {
+    if from == to {
+        return;
+    }
     let mut i = 0;
     while i < n {
         a[to + i] = a[from + i];

@@ -10,15 +10,12 @@ use Rattle.arena.specs.Slides.{lent}
 use Rattle.layout.specs.Order.{leafWords}
 use Rattle.room.specs.Leaf.{CanLeafDown, CanLeafUp, LeafDown, LeafUp, Up}
 use Rattle.room.specs.LeafLaws.{between-top, down-between, down-start, down-step, laid-moved, up-between, up-size, up-start, up-step}
-use Rattle.room.specs.PartLaws.{part-word}
+use Rattle.room.specs.PartLaws.{part-sized, part-word}
 use Rattle.room.specs.Parts.{CanSlidePart, Laid, PartSize, CanSizePart, SlidPart, Tight, partsFrom, sizeOf}
 use Rattle.words.specs.Words.{wordCount}
 
 size-here : {fanout : ℕ} {slots : List ℕ} {d k size : ℕ} (arena : List ℕ) → k ≤ wordCount d → PartSize fanout slots d k size → size ≡ sizeOf (getD (leafWords (lent fanout slots arena) d) k 0)
 size-here {fanout} {slots} {d} {k} arena s p = p .size-is ∙ ap sizeOf (sym (part-word (lent fanout slots arena) d k s))
-
-sized-here : {fanout : ℕ} {slots arena fs : List ℕ} {d : ℕ} {bs : List ℕ} {k : ℕ} → Laid (lent fanout slots arena) fs d bs → k ≤ wordCount d → CanSizePart fanout slots d k
-sized-here h s = record { stored = s; count-fits = h .owns .count-fits; inside = h .owns .inside }
 
 -- leaf_down
 
@@ -34,7 +31,7 @@ module _ {fanout : ℕ} {slots arena : List ℕ} {d n start : ℕ} {now-slots no
   laid-down = laid-moved (g .laid) ((i .down (g .laid) (g .packed)) .moved)
 
   pub down-sized : CanSizePart fanout now-slots d k
-  down-sized = sized-here laid-down stored-down
+  down-sized = part-sized laid-down stored-down
 
   pub down-fits : {size : ℕ} → PartSize fanout now-slots d k size → end + size ≤ length now-arena
   down-fits p = rw (size-here now-arena stored-down p) (between-top k end laid-down (down-between laid-down stored-down ((i .down (g .laid) (g .packed)) .tight)))
@@ -77,7 +74,7 @@ module _ {fanout : ℕ} {slots arena : List ℕ} {d n top : ℕ} {now-slots now-
   tight-up = rw is at ((i .up (g .laid) (g .packed)) .tight)
 
   pub up-sized : CanSizePart fanout now-slots d m
-  up-sized = sized-here laid-up stored-up
+  up-sized = part-sized laid-up stored-up
 
   pub up-fits : {size : ℕ} → PartSize fanout now-slots d m size → size ≤ start
   up-fits p = rw (size-here now-arena stored-up p) (up-size laid-up stored-up tight-up)

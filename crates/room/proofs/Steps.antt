@@ -4,12 +4,11 @@ use Prim.Native.Nat.{ℕ, zero, suc, _+_, _-_, _^_, _<_}
 use mathlib.Core.List.{List}
 use mathlib.Core.Path.{_≡_, _∙_, ap, refl, subst, sym}
 use native.Mathlib.Omega.{arith}
-use lib.ListN.{getD, length}
+use lib.ListN.{length}
 use Rattle.arena.specs.Slides.{CanSlideLow, CanSlidePair, SlidLow, SlidPair}
 use Rattle.room.specs.PartLaws.{can-slide-low, can-slide-pair, low-slid, pair-slid}
-use Rattle.room.specs.Parts.{CanSlidePart, PartSize, CanPlacePart, CanSizePart, SlidPart, partSlot}
-use Rattle.words.specs.Words.{Unpacked, firstSlot, lowKeySlot, wordLeaf}
-use Rattle.words.specs.declared.Slot.{Slot}
+use Rattle.room.specs.Parts.{CanSlidePart, CanPlacePart, CanSizePart, SlidPart, partSlot}
+use Rattle.words.specs.Words.{firstSlot, lowKeySlot, wordLeaf}
 
 less-one : (i : ℕ) → i ≡ suc i - 1
 less-one i = omega arith
@@ -32,17 +31,11 @@ pub pair-is : {fanout d leaf first : ℕ} (k : ℕ) → CanPlacePart fanout d k 
 pair-is zero h z e f = absurd (z refl)
 pair-is {fanout} {d} (suc i) h z e f = rw (f, e, ← less-one i)
 
--- part_size
-
-pub slot-room : {fanout : ℕ} {slots : List ℕ} {d k : ℕ} → length slots < 2 ^ 64 → CanSizePart fanout slots d k → CanPlacePart fanout d k
-slot-room s h = record { stored = h .stored; count-fits = h .count-fits; inside = omega (arith, h .inside) }
+-- part_at
 
 pub slot-inside : {fanout : ℕ} {slots : List ℕ} {d : ℕ} (k : ℕ) {r : ℕ} → CanSizePart fanout slots d k → r ≡ partSlot fanout d k → r < length slots
 slot-inside zero h e = rw e (omega (arith, h .inside, h .count-fits))
 slot-inside (suc i) h e = rw e (omega (arith, h .inside, h .count-fits, h .stored))
-
-pub size-told : {fanout : ℕ} {slots : List ℕ} {d k r : ℕ} {s : Slot} → r ≡ partSlot fanout d k → Unpacked (getD slots r 0) s → PartSize fanout slots d k (s .suffix + s .value)
-size-told e u = record { size-is = rw (u .suffix-is, u .value-is, e) }
 
 -- slide_part
 

@@ -6,4 +6,5 @@ pub mod Pack
 pub mod PackLaws
 pub mod Rooms
 pub mod RoomLaws
+pub mod GapLaws
 pub mod RoomMet

@@ -20,7 +20,7 @@ use Rattle.layout.specs.SlotLaws.{replace-words}
 use Rattle.lists.specs.Part.{put}
 use Rattle.words.specs.Laws.{offset-of-slot, suffix-of-slot, suffix-small, value-of-slot, value-small}
 use Rattle.words.specs.Words.{lowKeySlot, lowKeyWord, slotWord, wordCount, wordLeaf, wordOffset, wordSuffix, wordValue}
-use Rattle.room.specs.Parts.{CanSlidePart, Laid, PartBetween, PartMoved, Tight, partSlot, partsBefore, partsFrom, sizeOf, sizes, wordTo}
+use Rattle.room.specs.Parts.{CanSizePart, CanSlidePart, Laid, PartBetween, PartMoved, Tight, partSlot, partsBefore, partsFrom, sizeOf, sizes, wordTo}
 
 -- a word with its part elsewhere
 
@@ -60,6 +60,9 @@ pub part-neighbours : {b : Buffers} {fs : List ℕ} {d : ℕ} {bs : List ℕ} (h
     × WordsIn (wordOffset (getD (leafWords b d) k 0) + sizeOf (getD (leafWords b d) k 0)) (partsFrom b d bs (suc k)) (length (b .arena))
 part-neighbours {b} {fs} {d} {bs} h zero s = rw (append-nil (wordsOf b fs)) (low-neighbours (h .lays) (lowWord b d) refl)
 part-neighbours {b} {fs} {d} {bs} h (suc i) s = neighbours (h .lays) i (getD (slotWords b d) i 0) (rw (words-long (h .lays .here)) s) refl
+
+pub part-sized : {fanout : ℕ} {slots arena fs : List ℕ} {d : ℕ} {bs : List ℕ} {k : ℕ} → Laid (lent fanout slots arena) fs d bs → k ≤ wordCount d → CanSizePart fanout slots d k
+part-sized h s = record { stored = s; count-fits = h .owns .count-fits; inside = h .owns .inside }
 
 -- the i-th pair slid
 

@@ -12,12 +12,15 @@ use Rattle.layout.specs.OrderLaws.{total}
 use Rattle.layout.specs.RegionLaws.{Owns}
 use Rattle.lists.specs.All.{All}
 use Rattle.model.specs.Leaves.{Node}
-use Rattle.words.specs.Words.{firstSlot, lowKeySlot, slotWord, wordCount, wordLeaf, wordSuffix, wordValue}
+use Rattle.words.specs.Words.{firstSlot, lowKeySlot, slotWord, wordCount, wordLeaf, wordOffset, wordSuffix, wordValue}
 
 -- where the word of the k-th part of the directory word d's leaf stands
 abbrev pub partSlot : (fanout d k : ℕ) → ℕ
 partSlot fanout d zero = lowKeySlot fanout (wordLeaf d)
 partSlot fanout d (suc i) = firstSlot fanout (wordLeaf d) + i
+
+abbrev pub partWord : (fanout : ℕ) (slots : List ℕ) (d k : ℕ) → ℕ
+partWord fanout slots d k = getD slots (partSlot fanout d k) 0
 
 pub record CanPlacePart (fanout d k : ℕ) : Type 0 where
   pub stored : k ≤ wordCount d
@@ -36,8 +39,12 @@ sizeOf w = wordSuffix w + wordValue w
 abbrev pub sizes : List ℕ → ℕ
 sizes ws = total (map wordExtent ws)
 
+-- where a word's part ends
+abbrev pub partEnd : ℕ → ℕ
+partEnd w = wordOffset w + sizeOf w
+
 pub record PartSize (fanout : ℕ) (slots : List ℕ) (d k size : ℕ) : Type 0 where
-  pub size-is : size ≡ sizeOf (getD slots (partSlot fanout d k) 0)
+  pub size-is : size ≡ sizeOf (partWord fanout slots d k)
 
 -- the parts of these words lie in order from a to top, without a gap
 pub record Tight (a : ℕ) (ws : List ℕ) (top : ℕ) : Type 0 where

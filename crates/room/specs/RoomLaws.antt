@@ -22,10 +22,10 @@ use Rattle.room.specs.LeafLaws.{words-same}
 use Rattle.room.specs.Pack.{AllUp, Whole}
 use Rattle.room.specs.PartLaws.{sizes-append}
 use Rattle.room.specs.Parts.{Tight, partsBefore, partsFrom, sizes}
-use Rattle.room.specs.Rooms.{CanMakeRoom}
+use Rattle.room.specs.Rooms.{CanMakeRoom, RoomPlace}
 
 -- the leaves asked for
-pub whole-asked : {fanout leaves : ℕ} {dir slots arena : List ℕ} {j i need : ℕ} → CanMakeRoom fanout leaves dir slots arena j i need → Whole (lent fanout slots arena) (take leaves dir)
+whole-asked : {fanout leaves : ℕ} {dir slots arena : List ℕ} {j i need : ℕ} → CanMakeRoom fanout leaves dir slots arena j i need → Whole (lent fanout slots arena) (take leaves dir)
 whole-asked {fanout} {leaves} {dir} {slots} {arena} g =
     let s = g .apart in
     record {
@@ -36,6 +36,9 @@ whole-asked {fanout} {leaves} {dir} {slots} {arena} g =
           owns-at (g .pool) (g .lays) (node 0 [] []) k (omega (arith, each-words (lent fanout slots arena) (g .ps) (take leaves dir) (g .ns) (g .lays .leaves)))
           (s .slots-are) (s .numbers) (s .distinct) (s .few);
     }
+
+pub place-asked : {fanout leaves : ℕ} {dir slots arena : List ℕ} {j i need : ℕ} → CanMakeRoom fanout leaves dir slots arena j i need → RoomPlace fanout leaves dir slots arena j i
+place-asked g = record { inside = g .inside; used = g .used; slot = g .slot; whole = whole-asked g; arena-fits = g .arena-fits }
 
 -- the bytes of all parts are those before the k-th part of the j-th leaf and those from it on
 parts-cut : (b : Buffers) (ds : List ℕ) (j k : ℕ) → j < length ds → wordsOf b ds ≡ partsBefore b (take j ds) (getD ds j 0) k ++ partsFrom b (getD ds j 0) (drop (suc j) ds) k

@@ -1,38 +1,26 @@
--- `make_room` meets its contract.
+-- `make_room` meets its contract: the room is found, or the parts are packed around its place.
 -- Assumes nothing.
-use Rattle.room.proofs.RoomSteps.{first-asked, fourth-asked, room-made, room-read, second-asked, third-asked}
-use mathlib.Core.Path.{_∙_}
+use Rattle.room.specs.GapLaws.{end-inside, place-read, place-sized, room-found}
+use Rattle.room.specs.RoomLaws.{place-asked}
 use native.Mathlib.Omega.{arith}
 use borrow.Author.Needs.{needs}
 use Rattle.room.proofs.make_room.Statement.{statement}
 use Rattle.room.proofs.make_room.Tie as tie
 
-mul-d : tie.Need-mul-d
-mul-d c = omega (arith, room-read (c .before .before .before .pre))
+mul-part-end : tie.Need-mul-part-end
+mul-part-end c = omega (arith, place-read (place-asked (c .before .before .before .before .pre)))
 
-shared-slice-read-d : tie.Need-shared-slice-read-d
-shared-slice-read-d c = room-read (c .before .before .before .before .pre)
+shared-slice-read-part-end : tie.Need-shared-slice-read-part-end
+shared-slice-read-part-end c = place-read (place-asked (c .before .before .before .before .before .pre))
 
-pack-down-requires : tie.Need-pack-down-requires
-pack-down-requires c κs = first-asked (c .before .before .before .before .before .before .pre)
+part-end-requires : tie.Need-part-end-requires
+part-end-requires c κs = place-sized (place-asked (c .before .before .before .before .before .pre))
 
-add-leaf-down : tie.Need-add-leaf-down
-add-leaf-down c = search needs
+next-start-requires : tie.Need-next-start-requires
+next-start-requires c κs = place-asked (c .before .before .before .before .before .before .before .before .pre)
 
-leaf-down-requires : tie.Need-leaf-down-requires
-leaf-down-requires c κs = second-asked (c .before .before .before .before .before .before .before .before .before .before .before .before .before .pre) (c .before .before .before .before .before .before .pack-down .ensures) (c .before .before .before .before .before .before .pack-down .kept .1 .1 .0)
-
-add-pack-up : tie.Need-add-pack-up
-add-pack-up c = search needs
-
-pack-up-requires : tie.Need-pack-up-requires
-pack-up-requires c κs = third-asked (c .before .before .before .before .before .before .before .before .before .before .before .before .before .before .before .before .before .before .before .before .pre) (c .before .before .before .before .before .before .before .before .before .before .before .before .before .pack-down .ensures) (c .before .before .before .before .before .before .leaf-down .ensures) (c .before .before .before .before .before .before .leaf-down .kept .0) (c .before .before .before .before .before .before .leaf-down .kept .1 .0 ∙ c .before .before .before .before .before .before .before .before .before .before .before .before .before .pack-down .kept .1 .1 .0)
-
-add-leaf-up : tie.Need-add-leaf-up
-add-leaf-up c = search needs
-
-leaf-up-requires : tie.Need-leaf-up-requires
-leaf-up-requires c κs = fourth-asked (c .before .before .before .before .before .before .before .before .before .before .before .before .before .before .before .before .before .before .before .before .before .before .before .before .before .before .before .pre) (c .before .before .before .before .before .before .before .before .before .before .before .before .before .before .before .before .before .before .before .before .pack-down .ensures) (c .before .before .before .before .before .before .before .before .before .before .before .before .before .leaf-down .ensures) (c .before .before .before .before .before .before .before .before .before .before .before .before .before .leaf-down .kept .0) (c .before .before .before .before .before .before .pack-up .ensures) (c .before .before .before .before .before .before .pack-up .kept .1 .1 .0 ∙ c .before .before .before .before .before .before .before .before .before .before .before .before .before .leaf-down .kept .1 .0 ∙ c .before .before .before .before .before .before .before .before .before .before .before .before .before .before .before .before .before .before .before .before .pack-down .kept .1 .1 .0)
+add-if1 : tie.Need-add-if1
+add-if1 c = omega (arith, end-inside (place-asked (c .before .before .before .before .before .before .before .before .before .pre)) (c .before .before .before .part-end .ensures), c .before .before .before .before .before .before .before .before .before .pre .arena-fits, c .before .before .before .before .before .before .before .before .before .pre .free)
 
 same-length : tie.Need-same-length
 same-length c = search needs
@@ -41,21 +29,33 @@ same-length-2 : tie.Need-same-length-2
 same-length-2 c = search needs
 
 returns : tie.Need-returns
-returns c = room-made (c .before .before .before .before .before .before .before .before .before .before .before .before .before .before .before .before .before .before .before .before .before .before .before .before .before .before .before .before .before .before .before .before .pre) (c .before .before .before .before .before .before .before .before .before .before .before .before .before .before .before .before .before .before .before .before .before .before .before .before .before .pack-down .ensures) (c .before .before .before .before .before .before .before .before .before .before .before .before .before .before .before .before .before .before .leaf-down .ensures) (c .before .before .before .before .before .before .before .before .before .before .before .before .before .before .before .before .before .before .leaf-down .kept .0) (c .before .before .before .before .before .before .before .before .before .before .before .pack-up .ensures) (c .before .before .before .before .leaf-up .ensures) (c .before .before .before .before .leaf-up .kept .0) (c .before .before .before .before .leaf-up .kept .0 ∙ c .before .before .before .before .before .before .before .before .before .before .before .pack-up .kept .1 .0 ∙ c .before .before .before .before .before .before .before .before .before .before .before .before .before .before .before .before .before .before .leaf-down .kept .0 ∙ c .before .before .before .before .before .before .before .before .before .before .before .before .before .before .before .before .before .before .before .before .before .before .before .before .before .pack-down .kept .1 .0) (c .before .before .before .before .leaf-up .kept .1 .0 ∙ c .before .before .before .before .before .before .before .before .before .before .before .pack-up .kept .1 .1 .0 ∙ c .before .before .before .before .before .before .before .before .before .before .before .before .before .before .before .before .before .before .leaf-down .kept .1 .0 ∙ c .before .before .before .before .before .before .before .before .before .before .before .before .before .before .before .before .before .before .before .before .before .before .before .before .before .pack-down .kept .1 .1 .0)
+returns c = room-found (place-asked (c .before .before .before .before .before .before .before .before .before .before .pre)) (c .before .before .before .before .part-end .ensures) (c .before .next-start .ensures) (c .if1 .taken)
+
+pack-around-requires : tie.Need-pack-around-requires
+pack-around-requires c κs = place-asked (c .before .before .before .before .before .before .before .before .before .before .before .before .pre)
+
+same-length-3 : tie.Need-same-length-3
+same-length-3 c = search needs
+
+same-length-4 : tie.Need-same-length-4
+same-length-4 c = search needs
+
+returns-2 : tie.Need-returns-2
+returns-2 c = c .before .before .before .before .pack-around .ensures .made _ (c .before .before .before .before .before .before .before .before .before .before .before .before .before .before .before .before .before .pre .free)
 
 pub make-room-spec : {M : Type 1} → statement M
 make-room-spec =
     tie.close
     (tie.spec
-    mul-d
-    shared-slice-read-d
-    pack-down-requires
-    add-leaf-down
-    leaf-down-requires
-    add-pack-up
-    pack-up-requires
-    add-leaf-up
-    leaf-up-requires
+    mul-part-end
+    shared-slice-read-part-end
+    part-end-requires
+    next-start-requires
+    add-if1
     same-length
     same-length-2
-    returns)
+    returns
+    pack-around-requires
+    same-length-3
+    same-length-4
+    returns-2)

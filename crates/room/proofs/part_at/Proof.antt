@@ -1,10 +1,10 @@
--- `part_size` meets its contract.
+-- `part_at` meets its contract.
 -- Assumes nothing.
-use Rattle.room.proofs.Steps.{size-told, slot-inside}
+use Rattle.room.proofs.Steps.{slot-inside}
 use native.Mathlib.Omega.{arith}
 use borrow.Author.Needs.{needs}
-use Rattle.room.proofs.part_size.Statement.{statement}
-use Rattle.room.proofs.part_size.Tie as tie
+use Rattle.room.proofs.part_at.Statement.{statement}
+use Rattle.room.proofs.part_at.Tie as tie
 
 part-slot-requires : tie.Need-part-slot-requires
 part-slot-requires c κs = search needs
@@ -18,19 +18,15 @@ shared-slice-read-unpack-slot c = slot-inside _ (c .before .before .before .pre)
 unpack-slot-requires : tie.Need-unpack-slot-requires
 unpack-slot-requires c κs = search needs
 
-add-result : tie.Need-add-result
-add-result c = search needs
-
 returns : tie.Need-returns
-returns c = size-told (c .before .before .before .part-slot .ensures) (c .before .unpack-slot .ensures)
+returns c = rw (c .before .before .part-slot .ensures) at (c .unpack-slot .ensures)
 
-pub part-size-spec : {M : Type 1} → statement M
-part-size-spec =
+pub part-at-spec : {M : Type 1} → statement M
+part-at-spec =
     tie.close
     (tie.spec
     part-slot-requires
     mul-unpack-slot
     shared-slice-read-unpack-slot
     unpack-slot-requires
-    add-result
     returns)
