@@ -6,13 +6,13 @@ use mathlib.Core.List.{List, [], _∷_}
 use mathlib.Core.Option.{Option, none, some}
 use mathlib.Core.Path.{_∙_, _≡_, ap, refl, subst, sym}
 use native.Mathlib.Omega.{arith}
-use borrow.Author.Tests.{ltb-false, ltb-true}
+use borrow.Author.Tests.{le-ltb, ltb-false, ltb-true}
 use lib.ListN.{drop, length, take}
 use Rattle.changes.specs.Outcomes.{ChangedBy, Kept, Lent, oldBytes, oldTold}
 use Rattle.changes.specs.Outcomes as changes
 use Rattle.changes.specs.declared.Changed.{Changed}
 use Rattle.history.specs.Histories.{Call, History, Reading, State, clear, contains-key, create, first, first-in-range, get, get-gt, get-value, holds-index, insert, leaf-at, leavesOf, len, lending, mapOf, range-value, read, remove, scan-prefix}
-use Rattle.history.specs.Says.{ContainsSays, CreateSays, GetSays, InsertRefused, LenSays, OldRefused, OldSays, PrefixLies, PrefixRefused, PrefixSays, RangeValueSays, ReadSays, Says, ScanSays, Short, bytesOf, inverted-range, long-end, long-key, long-prefix, long-start, long-value, no-leaf, no-room, old-refused, short-end, short-key, short-output, valueOf}
+use Rattle.history.specs.Says.{ContainsSays, CreateSays, GetSays, InsertRefused, LenSays, MayInsert, NotLong, OldFits, OldRefused, OldSays, PairNotLong, PrefixLies, PrefixRefused, PrefixSays, RangeValueSays, ReadSays, Says, ScanSays, bytesOf, inverted-range, long-end, long-key, long-prefix, long-start, long-value, no-leaf, no-room, old-refused, short-end, short-key, short-output, valueOf}
 use Rattle.history.specs.Stands.{Stands, answered, presumed, stands}
 use Rattle.layout.specs.Examples.{header}
 use Rattle.layout.specs.Places.{placeOf}
@@ -20,7 +20,7 @@ use Rattle.lists.specs.All.{All}
 use Rattle.lists.specs.Part.{drop-put-after, length-put, part-put, put, put-nil}
 use Rattle.model.specs.Answers.{Gives, accepted, answerCode, beyond, containsAnswer, everything, getAnswer, inverted, isSome, keyOf, keyWritten, leafAnswer, lenAnswer, longBound, longKey, longValue, meetsSizes, noLeaf, noRoom, rangeAnswer, rangeFound, refuseIf, short, sizeOf}
 use Rattle.model.specs.Good.{Bounds, Tiled, Within, limits}
-use Rattle.model.specs.Leaves.{Node, pairsOf}
+use Rattle.model.specs.Leaves.{Node, Under, pairsOf}
 use Rattle.model.specs.Limits.{keyLimit, valueLimit}
 use Rattle.model.specs.Map.{Pair, firstIn, lookup}
 use Rattle.model.specs.MapSame.{pair-path}
@@ -32,7 +32,7 @@ use Rattle.model.specs.Walk as walk
 use Rattle.model.specs.declared.Range.{Range}
 use Rattle.model.specs.declared.Refusal.{Refusal}
 use Rattle.model.specs.declared.Refusal.the-variants.{InvertedRange, LongKey, LongValue, NoLeaf, NoRoom, Shape, ShortOutput}
-use Rattle.order.specs.Bytes.{Bytes}
+use Rattle.order.specs.Bytes.{Bytes, _≺_}
 use Rattle.order.specs.OrderLaws.{after, before, cmp-after, cmp-before, cmp-equal, equal, tri}
 use Rattle.route.specs.Lookups.{Lies, value-lies}
 use Rattle.tree_create.specs.Outcomes.{FreshBy, LenOutcome, lenTold, lengthCode}
@@ -41,8 +41,9 @@ use Rattle.tree_create.specs.declared.Length.{Length}
 use Rattle.tree_get.specs.Outcomes.{ContainsOutcome, GetOutcome, Shows, ValueOutcome, containedCode, containedTold, foundCode, foundTold, valueTold}
 use Rattle.tree_get.specs.declared.Contained.{Contained}
 use Rattle.tree_get.specs.declared.Found.{Found}
+use Rattle.prefixes.specs.End.{endBytes}
 use Rattle.prefixes.specs.Outcome.{PrefixBy, PrefixOutcome}
-use Rattle.prefixes.specs.RangeLaws.{made-exact}
+use Rattle.prefixes.specs.RangeLaws.{end-above, end-not-longer, made-exact}
 use Rattle.prefixes.specs.declared.Prefixed.{Prefixed}
 use Rattle.prefixes.specs.declared.Prefixed.the-variants.{Made}
 use Rattle.prefixes.specs.declared.Prefixed.the-variants as prefixed
@@ -149,7 +150,7 @@ module _ {s : State} {ns : List Node} {m : List Pair} {within : (kmost vmost : �
         → ScanSays (s .arena) r start end m out now-out (scanTold place (refuseIf d (ShortOutput (sizeOf (keyOf o))) (accepted o)))
     found-told out now-out a none f true h e = absurd (let z : _≡_ {A = ℕ} 0 1 = ap (λ (b : Bool). elim b [ true ↦ 1 | false ↦ 0 ]) h in omega (arith, z))
     found-told out now-out a none f false h e = (scanned f, (e ∙ put-nil out 0, a))
-    found-told out now-out a (some p) f true h e = (short-key p (scanned f) (ltb-true (length out) (length (p .key)) h), e ∙ put-nil out 0)
+    found-told out now-out a (some p) f true h e = (short-key a p (scanned f) (ltb-true (length out) (length (p .key)) h), e ∙ put-nil out 0)
     found-told out now-out a (some p) f false h e = (
       record {
         found = scanned f ∙ ap some (sym (seen-is out now-out p f e));
@@ -167,7 +168,7 @@ module _ {s : State} {ns : List Node} {m : List Pair} {within : (kmost vmost : �
         (scanTold place (keyWritten (length out) (refuseIf a LongKey (refuseIf b LongKey (refuseIf c InvertedRange (accepted (firstIn r start end (pairsOf ns))))))))
     scan-told out now-out true b c i j k e = (long-start i, e ∙ put-nil out 0)
     scan-told out now-out false true c i j k e = (long-end j, e ∙ put-nil out 0)
-    scan-told out now-out false false true i j k e = (inverted-range k, e ∙ put-nil out 0)
+    scan-told out now-out false false true i j k e = (inverted-range i j k, e ∙ put-nil out 0)
     scan-told out now-out false false false i j k e =
         found-told out now-out (record { start-short = i; end-short = j; upright = k }) (firstIn r start end (pairsOf ns)) refl (short (length out) (keyOf (firstIn r start end (pairsOf ns)))) refl e
 
@@ -213,16 +214,22 @@ module _ {s : State} {ns : List Node} {m : List Pair} {within : (kmost vmost : �
       made-says : (ms : List Node) → may → short (length out) (lookup k (pairsOf ns)) ≡ false → changes.Made (record { old = lookup k (pairsOf ns); nodes = ms }) (s .header) (lending s out) r after → OldSays k m out (after .out) may why (r .old)
       made-says ms a d b = subst (OldSays k m out (after .out) may why) (sym (b .answer .answer-is)) (old-told out (after .out) may why a (lookup k (pairsOf ns)) refl d (b .out-is))
 
-    short-says : (out : Bytes) (o : Option Bytes) → lookup k (pairsOf ns) ≡ o → short (length out) o ≡ true → OldRefused k m out (ShortOutput (sizeOf o))
-    short-says out none l h = absurd (let z : _≡_ {A = ℕ} 0 1 = ap (λ (b : Bool). elim b [ true ↦ 1 | false ↦ 0 ]) h in omega (arith, z))
-    short-says out (some v) l h = short-output v (looked k l) (ltb-true (length out) (length v) h)
+    short-says : (out : Bytes) (may : Type 0) → may → (o : Option Bytes) → lookup k (pairsOf ns) ≡ o → short (length out) o ≡ true → OldRefused k m out may (ShortOutput (sizeOf o))
+    short-says out may a none l h = true-false (sym h)
+    short-says out may a (some v) l h = short-output a v (looked k l) (ltb-true (length out) (length v) h)
+
+    fits-says : (out : Bytes) → short (length out) (lookup k (pairsOf ns)) ≡ false → OldFits k m out
+    fits-says out h u e = ltb-false (length out) (length u) (rw (ap (lookup k) (x .pairs-are) ∙ e) at h)
 
     module _ (v out : Bytes) (r : Changed) (after : Lent) where
       abbrev May : Type 0
-      May = Short k × (length v ≤ valueLimit)
+      May = MayInsert (s .header .fanout) (length (s .dir)) (length (s .arena)) k v ns
 
       abbrev Why : Refusal → Type 0
       Why = InsertRefused (s .header .fanout) (length (s .dir)) (length (s .arena)) k v ns m out
+
+      not-long : longKey k ≡ false → longValue v ≡ false → PairNotLong k v
+      not-long i j = (ltb-false keyLimit (length k) i, ltb-false valueLimit (length v) j)
 
       insert-told : (ms : List Node) (a b c d e : Bool) → longKey k ≡ a → longValue v ≡ b → short (length out) (lookup k (pairsOf ns)) ≡ c
           → noLeaf (s .header .fanout) (length (s .dir)) k v ns ≡ d → noRoom (s .header .fanout) (length (s .arena)) k v ns ≡ e
@@ -230,11 +237,11 @@ module _ {s : State} {ns : List Node} {m : List Pair} {within : (kmost vmost : �
           (accepted (record { old = lookup k (pairsOf ns); nodes = ms }))))))) (s .header) (lending s out) r after
           → OldSays k m out (after .out) May Why (r .old)
       insert-told ms true b c d e i j l f g o = kept-says out May Why (old-refused (long-key (ltb-true keyLimit (length k) i))) o
-      insert-told ms false true c d e i j l f g o = kept-says out May Why (long-value (ltb-true valueLimit (length v) j)) o
-      insert-told ms false false true d e i j l f g o = kept-says out May Why (old-refused (short-says out (lookup k (pairsOf ns)) refl l)) o
-      insert-told ms false false false true e i j l f g o = kept-says out May Why (no-leaf f) o
-      insert-told ms false false false false true i j l f g o = kept-says out May Why (no-room g) o
-      insert-told ms false false false false false i j l f g o = made-says out May Why ms (ltb-false keyLimit (length k) i, ltb-false valueLimit (length v) j) l o
+      insert-told ms false true c d e i j l f g o = kept-says out May Why (long-value (ltb-false keyLimit (length k) i) (ltb-true valueLimit (length v) j)) o
+      insert-told ms false false true d e i j l f g o = kept-says out May Why (old-refused (short-says out (PairNotLong k v) (not-long i j) (lookup k (pairsOf ns)) refl l)) o
+      insert-told ms false false false true e i j l f g o = kept-says out May Why (no-leaf (not-long i j) (fits-says out l) f) o
+      insert-told ms false false false false true i j l f g o = kept-says out May Why (no-room (not-long i j) (fits-says out l) f g) o
+      insert-told ms false false false false false i j l f g o = made-says out May Why ms (record { not-long = not-long i j; leaf-free = f; room = g }) l o
 
       insert-says : InsertOutcome (s .header) k v (lending s out) r after → OldSays k m out (after .out) May Why (r .old)
       insert-says o =
@@ -245,12 +252,12 @@ module _ {s : State} {ns : List Node} {m : List Pair} {within : (kmost vmost : �
     module _ (out : Bytes) (r : Changed) (after : Lent) where
       remove-told : (ms : List Node) (a c : Bool) → longKey k ≡ a → short (length out) (lookup k (pairsOf ns)) ≡ c
           → ChangedBy (refuseIf a LongKey (refuseIf c (ShortOutput (sizeOf (lookup k (pairsOf ns)))) (accepted (record { old = lookup k (pairsOf ns); nodes = ms })))) (s .header) (lending s out) r after
-          → OldSays k m out (after .out) (Short k) (OldRefused k m out) (r .old)
-      remove-told ms true c i l o = kept-says out (Short k) (OldRefused k m out) (long-key (ltb-true keyLimit (length k) i)) o
-      remove-told ms false true i l o = kept-says out (Short k) (OldRefused k m out) (short-says out (lookup k (pairsOf ns)) refl l) o
-      remove-told ms false false i l o = made-says out (Short k) (OldRefused k m out) ms (ltb-false keyLimit (length k) i) l o
+          → OldSays k m out (after .out) (NotLong k) (OldRefused k m out (NotLong k)) (r .old)
+      remove-told ms true c i l o = kept-says out (NotLong k) (OldRefused k m out (NotLong k)) (long-key (ltb-true keyLimit (length k) i)) o
+      remove-told ms false true i l o = kept-says out (NotLong k) (OldRefused k m out (NotLong k)) (short-says out (NotLong k) (ltb-false keyLimit (length k) i) (lookup k (pairsOf ns)) refl l) o
+      remove-told ms false false i l o = made-says out (NotLong k) (OldRefused k m out (NotLong k)) ms (ltb-false keyLimit (length k) i) l o
 
-      remove-says : RemoveOutcome (s .header) k (lending s out) r after → OldSays k m out (after .out) (Short k) (OldRefused k m out) (r .old)
+      remove-says : RemoveOutcome (s .header) k (lending s out) r after → OldSays k m out (after .out) (NotLong k) (OldRefused k m out (NotLong k)) (r .old)
       remove-says o = remove-told (removeRule true k ns) (longKey k) (short (length out) (lookup k (pairsOf ns))) refl refl (answered x (RemoveBy (s .header) k (lending s out) r after) o .changed)
 
   -- creation
@@ -269,36 +276,57 @@ refused-as {x} {y} e = ap (λ (q : Prefixed). elim q [ Made z ↦ y | prefixed.R
 made-refused : {A : Type 0} {x : Span} {y : Refusal} → Made x ≡ prefixed.Refused y → A
 made-refused e = absurd (let z : _≡_ {A = ℕ} 0 1 = ap (λ (q : Prefixed). elim q [ Made v ↦ 0 | prefixed.Refused v ↦ 1 ]) e in omega (arith, z))
 
-abbrev endOf : Prefixed → ℕ
-endOf (Made x) = x .end
-endOf (prefixed.Refused y) = 0
+made-same : {x y : Span} → Made x ≡ Made y → x ≡ y
+made-same {x} e = ap (λ (q : Prefixed). elim q [ Made z ↦ z | prefixed.Refused z ↦ x ]) e
 
 prefix-refused : (p out now-out : Bytes) (y : Refusal) (a c : Bool) (e : Option Bytes) → longKey p ≡ a → prefixEnd p ≡ e → short (length out) e ≡ c
     → PrefixBy (refuseIf a LongKey (refuseIf c (ShortOutput (sizeOf e)) (accepted (record { range = prefixRange e; end = e })))) out now-out (prefixed.Refused y)
     → PrefixRefused p out y × (now-out ≡ out)
 prefix-refused p out now-out y true c e i j l o = (rw (refused-as (sym (o .answer-is))) (long-prefix (ltb-true keyLimit (length p) i)), o .out-is)
 prefix-refused p out now-out y false true none i j l o = true-false (sym l)
-prefix-refused p out now-out y false true (some q) i j l o = (rw (refused-as (sym (o .answer-is))) (short-end q j (ltb-true (length out) (length q) l)), o .out-is)
+prefix-refused p out now-out y false true (some q) i j l o = (rw (refused-as (sym (o .answer-is))) (short-end (ltb-false keyLimit (length p) i) q j (ltb-true (length out) (length q) l)), o .out-is)
 prefix-refused p out now-out y false false e i j l o =
     absurd (let z : _≡_ {A = ℕ} 0 1 = ap (λ (q : Prefixed). elim q [ Made v ↦ 1 | prefixed.Refused v ↦ 0 ]) (o .answer-is) in omega (arith, z))
+
+-- the end is above the prefix, and not longer
+end-allowed : (p e : Bytes) → NotLong p → prefixEnd p ≡ some e → Allowed (prefixRange (some e)) p e
+end-allowed p e h j =
+    let u : p ≺ e = subst (λ (o : Option Bytes). Under o p) j (end-above p) in
+    record {
+      start-short = le-ltb keyLimit (length p) h;
+      end-short = le-ltb keyLimit (length e) (omega (arith, h, end-not-longer p e j));
+      upright = rw (cmp-before u);
+    }
 
 prefix-made : (p out now-out : Bytes) (x : Span) (a c : Bool) (e : Option Bytes) → longKey p ≡ a → prefixEnd p ≡ e → short (length out) e ≡ c → PrefixOutcome p out now-out (Made x)
     → PrefixBy (refuseIf a LongKey (refuseIf c (ShortOutput (sizeOf e)) (accepted (record { range = prefixRange e; end = e })))) out now-out (Made x) → PrefixLies p out now-out x
 prefix-made p out now-out x true c e i j l q o = made-refused (o .answer-is)
 prefix-made p out now-out x false true e i j l q o = made-refused (o .answer-is)
 prefix-made p out now-out x false false none i j l q o =
-    let n : x .end ≡ 0 = ap endOf (o .answer-is) in
+    let n : x .end ≡ 0 = ap (λ (y : Span). y .end) (made-same (o .answer-is)) in
     let f = o .out-is ∙ put-nil out 0 in
-    record { exact = λ k b. made-exact p out now-out x k b q; fits = omega (arith, n); rest = ap (drop (x .end)) f; same-length = ap length f; short-prefix = ltb-false keyLimit (length p) i }
+    record {
+      range-is = ap (λ (y : Span). y .range) (made-same (o .answer-is)) ∙ ap prefixRange (sym j);
+      end-is = rw n (ap endBytes (sym j));
+      exact = λ k b. made-exact p out now-out x k b q;
+      allowed = rw (ap (λ (y : Span). y .range) (made-same (o .answer-is))) (record { start-short = i; end-short = refl; upright = refl });
+      fits = omega (arith, n);
+      rest = ap (drop (x .end)) f;
+      same-length = ap length f;
+      not-long = ltb-false keyLimit (length p) i;
+    }
 prefix-made p out now-out x false false (some b) i j l q o =
-    let n : x .end ≡ length b = ap endOf (o .answer-is) in
+    let n : x .end ≡ length b = ap (λ (y : Span). y .end) (made-same (o .answer-is)) in
     let f = ltb-false (length out) (length b) l in
     record {
+      range-is = ap (λ (y : Span). y .range) (made-same (o .answer-is)) ∙ ap prefixRange (sym j);
+      end-is = rw n (front out b (o .out-is) ∙ ap endBytes (sym j));
       exact = λ k y. made-exact p out now-out x k y q;
+      allowed = rw (ap (λ (y : Span). y .range) (made-same (o .answer-is)), n, front out b (o .out-is)) (end-allowed p b (ltb-false keyLimit (length p) i) j);
       fits = omega (arith, n, f);
       rest = rw n (behind out b (o .out-is));
       same-length = lasts out b f (o .out-is);
-      short-prefix = ltb-false keyLimit (length p) i;
+      not-long = ltb-false keyLimit (length p) i;
     }
 
 prefix-says : (p out now-out : Bytes) (r : Prefixed) → PrefixOutcome p out now-out r → PrefixSays p out now-out r

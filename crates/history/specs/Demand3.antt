@@ -1,6 +1,6 @@
 -- Demands 2 and 3 on the leaf list: after any history the buffers hold the list that the leaf rules give; its leaves cover all keys without gap or
--- overlap and outnumber the pairs by one at most; each split cuts the pairs in order into two nonempty halves at a shortest string; and with
--- P + 1 leaves and P x (2K + V) arena bytes no insert within P, K and V is refused 7 or 8.
+-- overlap and outnumber the pairs by one at most; each split cuts the pairs in order into two nonempty halves at a shortest string; and where K
+-- and V bound every accepted insert, with P + 1 leaves and P x (2K + V) arena bytes no insert within P, K and V is refused 7 or 8.
 -- Assumes nothing.
 use Prim.Native.Nat.{_*_, _+_, _<_, _≤_, suc, ℕ}
 use mathlib.Core.Bool.{false, true}

@@ -1,13 +1,15 @@
 -- Histories there are: an index in a pool of two leaves and three arena bytes, made by creation, and 61 put in it with the value 01. The sizes are those
 -- of demand 3 for P = K = V = 1, to the byte.
 -- Assumes nothing.
+use Prim.Native.Nat.{_≤_}
 use mathlib.Core.List.{[], _∷_}
 use mathlib.Core.Path.{_≡_, refl, subst}
 use native.Mathlib.Omega.{arith}
+use lib.ListN.{length}
 use Rattle.changes.specs.Outcomes.{Lent, lent}
 use Rattle.changes.specs.declared.Changed.{Changed}
-use Rattle.changes.specs.declared.Old.the-variants.{Nothing, Refused}
-use Rattle.history.specs.Demand3.{sized}
+use Rattle.changes.specs.declared.Old.the-variants.{Nothing}
+use Rattle.history.specs.Demand3.{sized-accepted}
 use Rattle.history.specs.Histories.{History, Within, begin, insert, mapOf, on, state}
 use Rattle.layout.specs.Buffers.{lowAt, lowWord, pairAt, slotWords, suffixAt, valueAt}
 use Rattle.layout.specs.Examples.{Blank, blank-holds, blank-w, header}
@@ -20,7 +22,7 @@ use Rattle.model.specs.Limits.{arenaLimit, fanoutLeast, fanoutLimit, keyLimit, 
 use Rattle.model.specs.Map.{pair}
 use Rattle.model.specs.Map as map
 use Rattle.model.specs.Rules.{freeFrom, fresh, insertHere, insertRule, lowestFree, splitIfFull, used}
-use Rattle.model.specs.declared.Refusal.the-variants.{NoLeaf, NoRoom}
+use Rattle.order.specs.Bytes.{Bytes}
 use Rattle.tree_create.specs.declared.Change.the-variants.{Done}
 use Rattle.tree_insert.specs.Outcomes.{InsertBy, InsertOutcome}
 
@@ -55,10 +57,10 @@ put-in = record {
 }
 
 abbrev before : Lent
-before = lent (0 ∷ 0 ∷ []) (0 ∷ 0 ∷ 0 ∷ 0 ∷ 0 ∷ 0 ∷ []) (0 ∷ 0 ∷ 0 ∷ []) []
+before = lent (0 ∷ 0 ∷ []) (0 ∷ 0 ∷ 0 ∷ 0 ∷ 0 ∷ 0 ∷ []) (0 ∷ 0 ∷ 0 ∷ []) (0 ∷ [])
 
 abbrev after : Lent
-after = lent (1 ∷ 0 ∷ []) (0x1000001 ∷ 0 ∷ 0 ∷ 0 ∷ 0 ∷ 0 ∷ []) (0x61 ∷ 0x01 ∷ 0 ∷ []) []
+after = lent (1 ∷ 0 ∷ []) (0x1000001 ∷ 0 ∷ 0 ∷ 0 ∷ 0 ∷ 0 ∷ []) (0x61 ∷ 0x01 ∷ 0 ∷ []) (0 ∷ [])
 
 abbrev answer : Changed
 answer = record { header = header 3 1 1 2; old = Nothing }
@@ -82,7 +84,7 @@ inserts = record {
 }
 
 pub example : History (state (header 3 1 1 2) (1 ∷ 0 ∷ []) (0x1000001 ∷ 0 ∷ 0 ∷ 0 ∷ 0 ∷ 0 ∷ []) (0x61 ∷ 0x01 ∷ 0 ∷ []))
-example = on begun (insert (0x61 ∷ []) (0x01 ∷ []) [] answer after inserts)
+example = on begun (insert (0x61 ∷ []) (0x01 ∷ []) (0 ∷ []) answer after inserts)
 
 pub example-map : mapOf example ≡ pair (0x61 ∷ []) (0x01 ∷ []) ∷ []
 unfolding example begun map.put
@@ -92,7 +94,9 @@ pub example-within : Within 1 1 example
 unfolding example begun
 example-within = ((omega arith, omega arith), tt)
 
--- the sizing speaks of it: the insert could not be refused as 7 or 8
-pub example-sized : (answer .old ≡ Refused NoLeaf → ⊥) × (answer .old ≡ Refused NoRoom → ⊥)
-unfolding map.put begun
-example-sized = sized begun 1 1 1 tt (omega arith) (omega arith) (0x61 ∷ []) (0x01 ∷ []) [] answer after (omega arith) (omega arith) (omega arith) inserts
+-- the sizing speaks of it: of an insert into the fresh index, key and value of a byte at most and an output of a byte at least, no outcome that the
+-- contract allows is a refusal; `inserts` is such an outcome
+pub example-sized : (k v out : Bytes) (r : Changed) (l : Lent) → length k ≤ 1 → length v ≤ 1 → 1 ≤ length out
+    → InsertOutcome (header 3 1 0 0) k v (lent (0 ∷ 0 ∷ []) (0 ∷ 0 ∷ 0 ∷ 0 ∷ 0 ∷ 0 ∷ []) (0 ∷ 0 ∷ 0 ∷ []) out) r l → r .old ≡ Nothing
+unfolding map.put map.lookup begun keyLimit valueLimit
+example-sized k v out r l hk hv ho o = sized-accepted begun 1 1 1 tt (omega arith) (omega arith) k v out r l hk hv (omega arith) o (omega arith) (omega arith) ho

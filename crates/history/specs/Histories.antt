@@ -9,7 +9,7 @@ use Rattle.changes.specs.Outcomes.{Lent, lent}
 use Rattle.changes.specs.declared.Changed.{Changed}
 use Rattle.changes.specs.declared.Old.{Old}
 use Rattle.changes.specs.declared.Old.the-variants as old
-use Rattle.layout.specs.Lays.{W}
+use Rattle.layout.specs.Lays.{Holds, W}
 use Rattle.layout.specs.declared.Header.{Header}
 use Rattle.lists.specs.Exact.{Exact}
 use Rattle.model.specs.Leaves.{Node}
@@ -76,7 +76,8 @@ pub data Reading (s : State) : Type 0 where
   first : (out now-out : Bytes) (r : Scan) → FirstOutcome (s .header) (s .dir) (s .slots) (s .arena) out now-out r → Reading s
   scan-prefix : (p out now-out : Bytes) (r : Prefixed) → PrefixOutcome p out now-out r → Reading s
 
--- any call, accepted or refused: its arguments, what it answered and left, and that its contract allows this
+-- any call, accepted or refused: its arguments, what it answered and left, and that its contract allows this. What a function borrows without `mut`
+-- stays by its signature: header and buffers of a reading call, the arena of creation and `clear`
 pub data Call : State → State → Type 0 where
   read : {s : State} → Reading s → Call s s
   insert : {s : State} (k v out : Bytes) (r : Changed) (after : Lent) → InsertOutcome (s .header) k v (lending s out) r after → Call s (handed r after)
@@ -87,10 +88,11 @@ pub data Call : State → State → Type 0 where
   create : {s : State} (fanout : ℕ) (now-dir now-slots : List ℕ) (r : Answered) → CreateOutcome fanout (s .dir) (s .slots) (s .arena) now-dir now-slots r
       → Call s (state (ifNotDone (r .answer) (s .header) (r .header)) now-dir now-slots (s .arena))
 
--- a creation that was accepted, and any calls after it
+-- a fresh index, by an accepted creation or as header and buffers hold one, and any calls after it
 pub data History : State → Type 0 where
   begin : (fanout : ℕ) (dir slots arena now-dir now-slots : List ℕ) (r : Answered) → CreateOutcome fanout dir slots arena now-dir now-slots r → r .answer ≡ Done
       → History (state (r .header) now-dir now-slots arena)
+  found : {s : State} → Holds (s .header) (s .dir) (s .slots) (s .arena) fresh → History s
   on : {s t : State} → History s → Call s t → History t
 
 -- beside a history run an ordered map and the leaf rules: of each call they are told the arguments, and whether it was refused
@@ -104,6 +106,7 @@ mapAfter (create fanout now-dir now-slots r o) m = ifNotDone (r .answer) m []
 
 abbrev pub mapOf : {s : State} → History s → List Pair
 mapOf (begin fanout dir slots arena now-dir now-slots r o d) = []
+mapOf (found y) = []
 mapOf (on h c) = mapAfter c (mapOf h)
 
 abbrev pub leavesAfter : {s t : State} → Call s t → List Node → List Node
@@ -115,6 +118,7 @@ leavesAfter (create fanout now-dir now-slots r o) ns = ifNotDone (r .answer) ns 
 
 abbrev pub leavesOf : {s : State} → History s → List Node
 leavesOf (begin fanout dir slots arena now-dir now-slots r o d) = fresh
+leavesOf (found y) = fresh
 leavesOf (on h c) = leavesAfter c (leavesOf h)
 
 -- demand 3's bounds: since the index was last made fresh, every accepted insert has a key of at most kmost bytes and a value of at most vmost
@@ -128,4 +132,47 @@ WithinAfter kmost vmost (create fanout now-dir now-slots r o) before = ifNotDone
 
 abbrev pub Within : (kmost vmost : ℕ) {s : State} → History s → Type 0
 Within kmost vmost (begin fanout dir slots arena now-dir now-slots r o d) = Unit {0}
+Within kmost vmost (found y) = Unit {0}
 Within kmost vmost (on h c) = WithinAfter kmost vmost c (Within kmost vmost h)
+
+-- what an index was made with: the fanout, and the lengths of the three buffers
+pub record Measures : Type 0 where
+  pub fanout : ℕ
+  pub pool : ℕ
+  pub slot-words : ℕ
+  pub arena-bytes : ℕ
+
+abbrev pub measured : (fanout : ℕ) (dir slots arena : List ℕ) → Measures
+measured fanout dir slots arena = record { fanout = fanout; pool = length dir; slot-words = length slots; arena-bytes = length arena }
+
+abbrev pub measuresOf : State → Measures
+measuresOf s = measured (s .header .fanout) (s .dir) (s .slots) (s .arena)
+
+-- beside a history: what it began with, and from an accepted creation on that one's fanout
+
+abbrev pub measuresAfter : {s t : State} → Call s t → Measures → Measures
+measuresAfter (read c) m = m
+measuresAfter (insert k v out r after o) m = m
+measuresAfter (remove k out r after o) m = m
+measuresAfter (clear now-dir now-slots r o) m = m
+measuresAfter (create fanout now-dir now-slots r o) m =
+    ifNotDone (r .answer) m (record { fanout = fanout; pool = m .pool; slot-words = m .slot-words; arena-bytes = m .arena-bytes })
+
+abbrev pub madeWith : {s : State} → History s → Measures
+madeWith (begin fanout dir slots arena now-dir now-slots r o d) = measured fanout dir slots arena
+madeWith (found {s} y) = measuresOf s
+madeWith (on h c) = measuresAfter c (madeWith h)
+
+-- a call that reads or is refused, and a remove that answers none
+
+abbrev pub NoValue : Old → Type 0
+NoValue (old.Refused x) = Unit {0}
+NoValue old.Nothing = Unit {0}
+NoValue (old.Value n) = ⊥
+
+abbrev pub Idle : {s t : State} → Call s t → Type 0
+Idle (read c) = Unit {0}
+Idle (insert k v out r after o) = ifRefused (r .old) (Unit {0}) ⊥
+Idle (remove k out r after o) = NoValue (r .old)
+Idle (clear now-dir now-slots r o) = ifNotDone (r .answer) (Unit {0}) ⊥
+Idle (create fanout now-dir now-slots r o) = ifNotDone (r .answer) (Unit {0}) ⊥

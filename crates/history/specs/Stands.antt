@@ -10,9 +10,9 @@ use lib.ListN.{length}
 use Rattle.changes.specs.Outcomes.{ChangedBy, Lent, oldTold}
 use Rattle.changes.specs.declared.Changed.{Changed}
 use Rattle.changes.specs.declared.Old.{Old}
-use Rattle.history.specs.Histories.{History, State, Within, begin, clear, create, handed, ifNotDone, ifRefused, insert, leavesOf, lending, mapOf, on, read, remove, state}
+use Rattle.history.specs.Histories.{History, State, Within, begin, clear, create, found, handed, ifNotDone, ifRefused, insert, leavesOf, lending, mapOf, on, read, remove, state}
 use Rattle.layout.specs.Entry.{Entry}
-use Rattle.layout.specs.Examples.{header}
+use Rattle.layout.specs.Examples.{fresh-good, header}
 use Rattle.layout.specs.Lays.{Holds, W}
 use Rattle.layout.specs.LaysUnique.{holds-unique}
 use Rattle.layout.specs.Presumed.{Presumed, w-presumed}
@@ -55,7 +55,7 @@ module _ {s : State} {ns : List Node} {m : List Pair} {within : (kmost vmost : �
 
 -- a refused call leaves what stood
 
-state-path : (s t : State) → s .header ≡ t .header → s .dir ≡ t .dir → s .slots ≡ t .slots → s .arena ≡ t .arena → s ≡ t
+pub state-path : (s t : State) → s .header ≡ t .header → s .dir ≡ t .dir → s .slots ≡ t .slots → s .arena ≡ t .arena → s ≡ t
 state-path s t h d l a = λ i. record { header = h i; dir = d i; slots = l i; arena = a i }
 
 -- an accepted one leaves the list that its rule gives
@@ -160,9 +160,15 @@ begun fanout dir slots arena now-dir now-slots r (refused y) e b d = absurd (let
 begun fanout dir slots arena now-dir now-slots r (accepted ms) e b d =
     fresh-stands (subst (λ (l : List Node). Freshened fanout dir slots arena now-dir now-slots l r) (sym (created-fresh fanout dir slots arena e)) b)
 
+found-stands : (s : State) → Holds (s .header) (s .dir) (s .slots) (s .arena) fresh → Stands s fresh [] (λ kmost vmost. Unit {0})
+found-stands s y =
+    let good = fresh-good (s .header .fanout) (length (s .dir)) (length (s .slots)) (length (s .arena)) (y .sizes) in
+    rule-stands fresh (record { nodes = fresh; holds = y; good = good }) y refl (λ kmost vmost i. created)
+
 pub stands : {s : State} (h : History s) → Stands s (leavesOf h) (mapOf h) (λ kmost vmost. Within kmost vmost h)
 stands (begin fanout dir slots arena now-dir now-slots r o d) =
     begun fanout dir slots arena now-dir now-slots r (createAnswer fanout (length dir) (length slots) (length arena)) refl o d
+stands (found {s} y) = found-stands s y
 stands (on h (read c)) = stands h
 stands (on h (insert k v out r after o)) = insert-stands (stands h) k v out r after o
 stands (on h (remove k out r after o)) = remove-stands (stands h) k out r after o

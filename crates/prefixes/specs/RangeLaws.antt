@@ -1,13 +1,14 @@
 -- The range is the right one: of the strings of bytes below 256, exactly those that begin with the prefix are in it.
 -- Assumes nothing.
-use Prim.Native.Nat.{ℕ, suc, _<_}
+use Prim.Native.Nat.{ℕ, suc, _<_, _≤_}
 use mathlib.Core.List.{[], _∷_}
 use mathlib.Core.Logic.{inl, inr}
 use mathlib.Core.Option.{Option, none, some}
-use mathlib.Core.Path.{_≡_, refl, sym}
+use mathlib.Core.Path.{_≡_, ap, refl, sym}
 use native.Mathlib.Omega.{arith}
 use borrow.Author.Tests.{eq-eqb, ne-eqb}
 use lib.ListN.{length, take}
+use lib.Seq.{take-all}
 use Rattle.lists.specs.All.{All}
 use Rattle.lists.specs.Exact.{Exact, exact-and, exact-iff, exact-yes}
 use Rattle.lists.specs.Part.{part-put}
@@ -82,6 +83,24 @@ range-spans p k (some e) = exact-and (start-included p k) (end-excluded e k)
 
 pub range-exact : (p k : Bytes) → All Byte k → Exact (inRange (prefixRange (prefixEnd p)) p (endBytes (prefixEnd p)) k) (Begins p k)
 range-exact p k a = exact-iff (range-spans p k (prefixEnd p)) (λ s. spans-begins p k a (s .0) (s .1)) (λ b. begins-spans p k b)
+
+-- the end is above the prefix and not longer, so the range is refused neither as 6 nor as 3
+
+pub end-above : (p : Bytes) → Under (prefixEnd p) p
+end-above p = begins-spans p p (take-all (length p) p (omega arith)) .1
+
+pub end-not-longer : (p e : Bytes) → prefixEnd p ≡ some e → length e ≤ length p
+unfolding prefixEnd
+end-not-longer [] e h = absurd (let z : _≡_ {A = ℕ} 0 1 = cc in omega arith)
+end-not-longer (x ∷ p) e h = go (prefixEnd p) (λ f i. end-not-longer p f i) h
+  where
+    go : (o : Option Bytes) → ((f : Bytes) → o ≡ some f → length f ≤ length p) → raised x o ≡ some e → length e ≤ suc (length p)
+    go (some f) r i = let q : x ∷ f ≡ e = cc in omega (arith, r f refl, ap length q)
+    go none r i =
+        elim (leveled x 0xff) [
+          | even j ↦ absurd (let k : none ≡ some e = rw (eq-eqb x 0xff j) at i in let z : _≡_ {A = ℕ} 0 1 = cc in omega arith)
+          | apart j ↦ (let k : some (suc x ∷ []) ≡ some e = rw (ne-eqb x 0xff j) at i in let q : suc x ∷ [] ≡ e = cc in omega (arith, ap length q))
+        ]
 
 -- so it is for a caller, who finds the end key at the front of the output
 
