@@ -1,69 +1,93 @@
--- A call under its entry point keeps an index, accepted or refused.
+-- Calls counted, the row that a loop makes, and both rows.
 -- Assumes nothing.
-use Prim.Native.Nat.{ℕ, _+_, _≤_}
-use mathlib.Core.Bool.{true}
-use mathlib.Core.List.{List}
-use mathlib.Core.Path.{_∙_, _≡_, refl, subst, sym}
+use Prim.Native.Nat.{ℕ, suc, _+_, _≤_, _<_}
+use mathlib.Core.Path.{_∙_, _≡_, refl, subst}
 use native.Mathlib.Omega.{arith}
-use lib.ListN.{length}
-use Rattle.changes.specs.Outcomes.{ChangedBy, Kept, Lent}
+use lib.ListN.{length, replicate}
 use Rattle.changes.specs.declared.Changed.{Changed}
-use Rattle.layout.specs.Presumed.{Index}
+use Rattle.changes.specs.declared.Old.{Old}
+use Rattle.changes.specs.declared.Old.the-variants.{Nothing, Refused, Value}
 use Rattle.layout.specs.declared.Header.{Header}
-use Rattle.model.specs.Answers.{Answer, accepted, insertAnswer, refused, removeAnswer}
-use Rattle.model.specs.Answers as model
-use Rattle.model.specs.declared.Refusal.{Refusal}
 use Rattle.order.specs.Bytes.{Bytes}
-use Rattle.bulk.specs.Bulk.{Counted}
+use Rattle.bulk.specs.Bulk.{Call, Calls, Counted, InsertOne, Inserts, RemoveOne, Removes, Rows, Store, begun, finds, fourBytes, lends, refusals}
+use Rattle.bulk.specs.Bulk.Calls.{more, start}
+use Rattle.bulk.specs.Job.{callCount, mostPairs}
 use Rattle.bulk.specs.declared.Tally.{Tally}
-use Rattle.tree_insert.specs.Kept.{insert-keeps}
+use Rattle.bulk.specs.declared.job.Job.{Job}
 use Rattle.tree_insert.specs.Outcomes.{InsertInner}
-use Rattle.tree_remove.specs.Kept.{remove-keeps}
 use Rattle.tree_remove.specs.Outcomes.{RemoveInner}
 
-module _ {h : Header} (before : Lent) (r : Changed) (after : Lent) (x : Index h (before .dir) (before .slots) (before .arena)) where
-  kept-index : {e : Refusal} → Kept e h before r after → Index (r .header) (after .dir) (after .slots) (after .arena)
-  kept-index k = rw (k .header-is, k .dir-is, k .slots-are, k .arena-is) x
+refusals-most : (o : Old) → refusals o ≤ 1
+refusals-most (Value n) = omega arith
+refusals-most Nothing = omega arith
+refusals-most (Refused x) = omega arith
 
-  pub insert-index : (k v : Bytes) → InsertInner h k v before r after → Index (r .header) (after .dir) (after .slots) (after .arena)
-  insert-index k v o = go (insertAnswer (h .fanout) (length (before .dir)) (length (before .arena)) k v (length (before .out)) (x .nodes)) refl (o (x .nodes) (x .presumed))
-    where
-      go : (a : Answer model.Changed) → insertAnswer (h .fanout) (length (before .dir)) (length (before .arena)) k v (length (before .out)) (x .nodes) ≡ a
-          → ChangedBy a h before r after → Index (r .header) (after .dir) (after .slots) (after .arena)
-      go (refused e) p b = kept-index b
-      go (accepted c) p b = record { nodes = c .nodes; presumed = insert-keeps k v before r after (x .presumed) p (o (x .nodes) (x .presumed)) }
+finds-most : (o : Old) → finds o ≤ 1
+finds-most (Value n) = omega arith
+finds-most Nothing = omega arith
+finds-most (Refused x) = omega arith
 
-  pub remove-index : (k : Bytes) → RemoveInner h k before r after → Index (r .header) (after .dir) (after .slots) (after .arena)
-  remove-index k o = go (removeAnswer true k (length (before .out)) (x .nodes)) refl (o (x .nodes) (x .presumed) .changed)
-    where
-      go : (a : Answer model.Changed) → removeAnswer true k (length (before .out)) (x .nodes) ≡ a → ChangedBy a h before r after
-          → Index (r .header) (after .dir) (after .slots) (after .arena)
-      go (refused e) p b = kept-index b
-      go (accepted c) p b = record { nodes = c .nodes; presumed = remove-keeps k before r after (x .presumed) p (o (x .nodes) (x .presumed)) }
+pub counted : {t r : Tally} {c : Changed} {o : Old} → c .old ≡ o → r .header ≡ c .header → r .refused ≡ t .refused + refusals o → r .found ≡ t .found + finds o → Counted t c r
+counted e h r f = record { header-is = h; refused-is = rw e r; found-is = rw e f }
 
--- the loops: an index stands in buffers of the same lengths, and no call counts twice
+-- one call
 
-pub record Along (dir₀ slots₀ arena₀ : List ℕ) (t : Tally) (i : ℕ) (dir slots arena : List ℕ) : Type 0 where
-  pub index : Index (t .header) dir slots arena
-  pub refused-most : t .refused ≤ i
-  pub found-most : t .found ≤ i
-  pub dir-kept : length dir ≡ length dir₀
-  pub slots-kept : length slots ≡ length slots₀
-  pub arena-kept : length arena ≡ length arena₀
+pub insert-made : {h : Header} {s s′ : Store} {r : Changed} (k v : Bytes) {key value : ℕ} (out : Bytes) → k ≡ fourBytes key → v ≡ fourBytes value
+    → InsertInner h k v (lends s (replicate 4 0)) r (lends s′ out) → InsertOne key value h s r s′
+insert-made k v out e f x = record { out = out; made = rw (e, f) at x }
 
-module _ {dir₀ slots₀ arena₀ : List ℕ} where
-  pub along-start : {h : Header} → Index h dir₀ slots₀ arena₀ → Along dir₀ slots₀ arena₀ (record { header = h; refused = 0; found = 0 }) 0 dir₀ slots₀ arena₀
-  along-start x = record { index = x; refused-most = omega arith; found-most = omega arith; dir-kept = refl; slots-kept = refl; arena-kept = refl }
+pub remove-made : {h : Header} {s s′ : Store} {r : Changed} (k : Bytes) {key : ℕ} (out : Bytes) → k ≡ fourBytes key
+    → RemoveInner h k (lends s (replicate 4 0)) r (lends s′ out) → RemoveOne key h s r s′
+remove-made k out e x = record { out = out; made = rw e at x }
 
-  pub along-turn : {t r : Tally} {c : Changed} {i : ℕ} {dir slots arena dir′ slots′ arena′ : List ℕ} → Along dir₀ slots₀ arena₀ t i dir slots arena
-      → Index (c .header) dir′ slots′ arena′ → length dir′ ≡ length dir → length slots′ ≡ length slots → length arena′ ≡ length arena → Counted t c r
-      → Along dir₀ slots₀ arena₀ r (i + 1) dir′ slots′ arena′
-  along-turn {dir′ = dir′} {slots′} {arena′} a x d s m n =
-      record {
-        index = subst (λ (h : Header). Index h dir′ slots′ arena′) (sym (n .header-is)) x;
-        refused-most = omega (arith, a .refused-most, n .refused-most);
-        found-most = omega (arith, a .found-most, n .found-most);
-        dir-kept = d ∙ a .dir-kept;
-        slots-kept = s ∙ a .slots-kept;
-        arena-kept = m ∙ a .arena-kept;
-      }
+pub insert-key : {key key′ value : ℕ} {h : Header} {s s′ : Store} {r : Changed} → key ≡ key′ → InsertOne key value h s r s′ → InsertOne key′ value h s r s′
+insert-key e x = rw e at x
+
+pub remove-key : {key key′ : ℕ} {h : Header} {s s′ : Store} {r : Changed} → key ≡ key′ → RemoveOne key h s r s′ → RemoveOne key′ h s r s′
+remove-key e x = rw e at x
+
+-- a row of calls counts no call twice
+
+refused-most : {one : Call} {t₀ t : Tally} {s₀ s : Store} {i : ℕ} → Calls one t₀ s₀ i t s → t .refused ≤ t₀ .refused + i
+refused-most start = omega arith
+refused-most (more {c = c} a o n) = omega (arith, refused-most a, n .refused-is, refusals-most (c .old))
+
+found-most : {one : Call} {t₀ t : Tally} {s₀ s : Store} {i : ℕ} → Calls one t₀ s₀ i t s → t .found ≤ t₀ .found + i
+found-most start = omega arith
+found-most (more {c = c} a o n) = omega (arith, found-most a, n .found-is, finds-most (c .old))
+
+pub count-fits : {one : Call} {h : Header} {t : Tally} {s₀ s : Store} {i n : ℕ} → i < n → n ≤ mostPairs → Calls one (begun h) s₀ i t s → (t .refused < mostPairs) × (t .found < mostPairs)
+count-fits k l a = (omega (arith, refused-most a), omega (arith, found-most a))
+
+-- the loops: the calls so far, in buffers of the same lengths
+
+pub record Along (one : Call) (t₀ : Tally) (s₀ : Store) (i : ℕ) (t : Tally) (s : Store) : Type 0 where
+  pub calls : Calls one t₀ s₀ i t s
+  pub dir-kept : length (s .dir) ≡ length (s₀ .dir)
+  pub slots-kept : length (s .slots) ≡ length (s₀ .slots)
+  pub arena-kept : length (s .arena) ≡ length (s₀ .arena)
+
+pub along-start : {one : Call} {t₀ : Tally} {s₀ : Store} → Along one t₀ s₀ 0 t₀ s₀
+along-start = record { calls = start; dir-kept = refl; slots-kept = refl; arena-kept = refl }
+
+pub along-turn : {one : Call} {t₀ t t′ : Tally} {s₀ s s′ : Store} {c : Changed} {i k : ℕ} → k ≡ i + 1 → Along one t₀ s₀ i t s → one i (t .header) s c s′ → Counted t c t′
+    → length (s′ .dir) ≡ length (s .dir) → length (s′ .slots) ≡ length (s .slots) → length (s′ .arena) ≡ length (s .arena) → Along one t₀ s₀ k t′ s′
+along-turn {i = i} {k} e a o n d l m =
+    let q : k ≡ suc i = omega arith in
+    record { calls = rw q (more (a .calls) o n); dir-kept = d ∙ a .dir-kept; slots-kept = l ∙ a .slots-kept; arena-kept = m ∙ a .arena-kept }
+
+pub along-done : {one : Call} {t₀ t : Tally} {s₀ s : Store} {i n : ℕ} → i ≡ n → Along one t₀ s₀ i t s → Calls one t₀ s₀ n t s
+along-done e a = rw e at (a .calls)
+
+-- both rows
+
+pub rows : {j : Job} {h : Header} {a b c : Store} {t u : Tally} {n m : ℕ} → n ≡ callCount (j .inserts) (j .pairs) → Inserts (j .inserts) n h a t b
+    → m ≡ callCount (j .deletes) (j .pairs) → Removes (j .deletes) m (t .header) b u c → Rows j h a c
+rows {j} {h} {a} {b} {c} {t} {u} e x f y =
+    record {
+      full = t;
+      between = b;
+      left = u;
+      filled = subst (λ (k : ℕ). Inserts (j .inserts) k h a t b) e x;
+      emptied = subst (λ (k : ℕ). Removes (j .deletes) k (t .header) b u c) f y;
+    }

@@ -1,7 +1,7 @@
 // What is asked: a line such as `r s 20000`, the orders of the inserts and of the deletes and the number of pairs.
 ghost use Prim.Native.Nat.{_<_, _≤_};
-ghost use lib.ListN.{length};
-ghost use Rattle.bulk.specs.Bulk.{LineWithin, NumberWithin, mostPairs};
+ghost use mathlib.Core.Path.{_≡_};
+ghost use Rattle.bulk.specs.Job.{Lettered, Numbered, Parsed, callCount, keyAt, lineEnd, mostPairs};
 
 const MOST_PAIRS: usize = 20000;
 
@@ -35,7 +35,7 @@ enum Decimal {
 }
 
 pub fn call_count(o: Order, n: usize) -> usize
-    ensures { λ r. ⌜ r ≤ n ⌝ }
+    ensures { λ r. ⌜ r ≡ callCount o n ⌝ }
 {
     match o {
         Order::Rising => n,
@@ -48,7 +48,7 @@ pub fn call_count(o: Order, n: usize) -> usize
 // The key of the i-th of n calls. 7919 is a prime: where n is no multiple of it, a shuffle has every key once.
 pub fn key_at(o: Order, i: usize, n: usize) -> usize
     requires { ⌜ (i < n) × (n ≤ mostPairs) ⌝ }
-    ensures { λ r. ⌜ r < n ⌝ }
+    ensures { λ r. ⌜ r ≡ keyAt o i n ⌝ }
 {
     match o {
         Order::Rising => i,
@@ -58,7 +58,9 @@ pub fn key_at(o: Order, i: usize, n: usize) -> usize
     }
 }
 
-fn order_of(b: u8) -> Letter {
+fn order_of(b: u8) -> Letter
+    ensures { λ r. ⌜ Lettered b r ⌝ }
+{
     match b {
         b'r' => Letter::Is(Order::Rising),
         b'f' => Letter::Is(Order::Falling),
@@ -70,7 +72,7 @@ fn order_of(b: u8) -> Letter {
 
 // The number of a word of digits, where it is not above the most.
 fn number(word: &[u8]) -> Decimal
-    ensures { λ r. ⌜ NumberWithin r ⌝ }
+    ensures { λ r. ⌜ Numbered (now (word .entry)) r ⌝ }
 {
     if word.len() == 0 {
         return Decimal::Not;
@@ -93,7 +95,7 @@ fn number(word: &[u8]) -> Decimal
 
 // The line's length without its newline.
 fn line_end(text: &[u8]) -> usize
-    ensures { λ r. ⌜ r ≤ length (now (text .entry)) ⌝ }
+    ensures { λ r. ⌜ r ≡ lineEnd (now (text .entry)) ⌝ }
 {
     let n = text.len();
     if n == 0 {
@@ -106,7 +108,7 @@ fn line_end(text: &[u8]) -> usize
 }
 
 pub fn parse(text: &[u8]) -> Line
-    ensures { λ r. ⌜ LineWithin r ⌝ }
+    ensures { λ r. ⌜ Parsed (now (text .entry)) r ⌝ }
 {
     let end = line_end(text);
     if end < 4 {

@@ -2,9 +2,9 @@
 // entry points, which presume an index and leave one.
 ghost use Prim.Native.Nat.{_<_, _≤_};
 ghost use mathlib.Core.Path.{_≡_};
-ghost use lib.ListN.{length};
 ghost use Rattle.layout.specs.Presumed.{Index};
-ghost use Rattle.bulk.specs.Bulk.{Counted, mostPairs};
+ghost use Rattle.bulk.specs.Bulk.{Counted, InsertOne, Inserts, Ran, RemoveOne, Removes, fourBytes, store};
+ghost use Rattle.bulk.specs.Job.{mostPairs};
 
 mod job;
 
@@ -38,7 +38,7 @@ struct Tally {
 
 // Four bytes, most significant first, so that byte strings rise as the numbers do.
 fn bytes_of(n: usize) -> [u8; 4]
-    ensures { λ r. ⌜ length r ≡ 4 ⌝ }
+    ensures { λ r. ⌜ r ≡ fourBytes n ⌝ }
 {
     [
         (n / 16777216 % 256) as u8,
@@ -82,7 +82,7 @@ fn insert_one(
     value: usize,
 ) -> Changed
     requires { ⌜ Index h (now dir) (now slots) (now arena) ⌝ }
-    ensures { λ r. ⌜ Index (r .header) (now (dir .exit)) (now (slots .exit)) (now (arena .exit)) ⌝ }
+    ensures { λ r. ⌜ InsertOne key value h (store (now (dir .entry)) (now (slots .entry)) (now (arena .entry))) r (store (now (dir .exit)) (now (slots .exit)) (now (arena .exit))) ⌝ }
 {
     let k = bytes_of(key);
     let v = bytes_of(value);
@@ -98,7 +98,7 @@ fn remove_one(
     key: usize,
 ) -> Changed
     requires { ⌜ Index h (now dir) (now slots) (now arena) ⌝ }
-    ensures { λ r. ⌜ Index (r .header) (now (dir .exit)) (now (slots .exit)) (now (arena .exit)) ⌝ }
+    ensures { λ r. ⌜ RemoveOne key h (store (now (dir .entry)) (now (slots .entry)) (now (arena .entry))) r (store (now (dir .exit)) (now (slots .exit)) (now (arena .exit))) ⌝ }
 {
     let k = bytes_of(key);
     let mut old = [0u8; 4];
@@ -114,7 +114,7 @@ fn insert_all(
     n: usize,
 ) -> Tally
     requires { ⌜ Index h (now dir) (now slots) (now arena) × (n ≤ mostPairs) ⌝ }
-    ensures { λ r. ⌜ Index (r .header) (now (dir .exit)) (now (slots .exit)) (now (arena .exit)) ⌝ }
+    ensures { λ r. ⌜ Inserts order n h (store (now (dir .entry)) (now (slots .entry)) (now (arena .entry))) r (store (now (dir .exit)) (now (slots .exit)) (now (arena .exit))) ⌝ }
 {
     let mut t = Tally {
         header: h,
@@ -139,7 +139,7 @@ fn remove_all(
     n: usize,
 ) -> Tally
     requires { ⌜ Index h (now dir) (now slots) (now arena) × (n ≤ mostPairs) ⌝ }
-    ensures { λ r. ⌜ Index (r .header) (now (dir .exit)) (now (slots .exit)) (now (arena .exit)) ⌝ }
+    ensures { λ r. ⌜ Removes order n h (store (now (dir .entry)) (now (slots .entry)) (now (arena .entry))) r (store (now (dir .exit)) (now (slots .exit)) (now (arena .exit))) ⌝ }
 {
     let mut t = Tally {
         header: h,
@@ -173,6 +173,7 @@ fn write_tally(name: &[u8], t: Tally) {
 
 fn run(j: Job, dir: &mut [u32], slots: &mut [u64], arena: &mut [u8])
     requires { ⌜ j .pairs ≤ mostPairs ⌝ }
+    ensures { λ _. ⌜ Ran j (store (now (dir .entry)) (now (slots .entry)) (now (arena .entry))) (store (now (dir .exit)) (now (slots .exit)) (now (arena .exit))) ⌝ }
 {
     let r = create(FANOUT, dir, slots, arena);
     let h = r.header;

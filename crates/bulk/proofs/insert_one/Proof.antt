@@ -1,9 +1,7 @@
--- `insert_one` leaves an index: `insert-index`.
+-- `insert_one` leaves what `insert` leaves, of the bytes of key and value.
 -- Assumes nothing.
 use borrow.Author.Needs.{needs}
-use lib.ListN.{replicate}
-use Rattle.bulk.specs.BulkLaws.{insert-index}
-use Rattle.changes.specs.Outcomes.{lent}
+use Rattle.bulk.specs.BulkLaws.{insert-made}
 use Rattle.bulk.proofs.insert_one.Statement.{statement}
 use Rattle.bulk.proofs.insert_one.Tie as tie
 
@@ -35,7 +33,7 @@ same-length-3 : tie.Need-same-length-3
 same-length-3 c = search needs
 
 returns : tie.Need-returns
-returns c = insert-index (lent _ _ _ (replicate 4 0)) _ (lent _ _ _ (c .before .before .before .before .before .before .before .insert .last .1 .1 .1 .1 .1 .1 .0)) (c .before .before .before .before .before .before .before .before .before .before .before .before .before .before .before .before .before .before .before .pre) (c .before .before .before .before .before .before .before .before .before .before .before .before .before .before .before .bytes-of .result) (c .before .before .before .before .before .before .before .before .before .before .before .before .before .before .bytes-of2 .result) (c .before .before .before .before .before .before .before .insert .ensures)
+returns c = insert-made _ _ _ (c .before .before .before .before .before .before .before .before .before .before .before .before .before .before .before .bytes-of .ensures) (c .before .before .before .before .before .before .before .before .before .before .before .before .before .before .bytes-of2 .ensures) (c .before .before .before .before .before .before .before .insert .ensures)
 
 pub insert-one-spec : {M : Type 1} → statement M
 insert-one-spec =

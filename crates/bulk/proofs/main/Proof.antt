@@ -1,11 +1,10 @@
 -- `main` is safe and ends: a line that was read asks for no more pairs than `run` takes.
 -- Assumes nothing.
 use Prim.Native.Nat.{ℕ}
-use mathlib.Core.Path.{subst, sym}
+use mathlib.Core.Path.{sym}
 use borrow.Author.Needs.{needs}
 use lib.ListN.{length-replicate}
-use Rattle.bulk.specs.Bulk.{LineWithin}
-use Rattle.bulk.specs.declared.job.Line.{Line}
+use Rattle.bulk.specs.JobLaws.{asked-most}
 use Rattle.bulk.proofs.main.Statement.{statement}
 use Rattle.bulk.proofs.main.Tie as tie
 
@@ -49,7 +48,7 @@ slice-aggregate-run-3 : tie.Need-slice-aggregate-run-3
 slice-aggregate-run-3 c = sym (length-replicate {A = ℕ} 1048576 0)
 
 run-requires : tie.Need-run-requires
-run-requires c κs = subst (λ (l : Line). LineWithin l) (c .before .before .before .before .j .given .1) (c .before .before .before .before .before .before .parse .ensures)
+run-requires c κs = asked-most _ (c .before .before .before .before .j .given .1) (c .before .before .before .before .before .before .parse .ensures)
 
 returns-2 : tie.Need-returns-2
 returns-2 c = search needs

@@ -1,9 +1,7 @@
--- `remove_one` leaves an index: `remove-index`.
+-- `remove_one` leaves what `remove` leaves, of the bytes of the key.
 -- Assumes nothing.
 use borrow.Author.Needs.{needs}
-use lib.ListN.{replicate}
-use Rattle.bulk.specs.BulkLaws.{remove-index}
-use Rattle.changes.specs.Outcomes.{lent}
+use Rattle.bulk.specs.BulkLaws.{remove-made}
 use Rattle.bulk.proofs.remove_one.Statement.{statement}
 use Rattle.bulk.proofs.remove_one.Tie as tie
 
@@ -29,7 +27,7 @@ same-length-3 : tie.Need-same-length-3
 same-length-3 c = search needs
 
 returns : tie.Need-returns
-returns c = remove-index (lent _ _ _ (replicate 4 0)) _ (lent _ _ _ (c .before .before .before .before .before .before .before .remove .last .1 .1 .1 .1 .1 .0)) (c .before .before .before .before .before .before .before .before .before .before .before .before .before .before .before .before .before .pre) (c .before .before .before .before .before .before .before .before .before .before .before .before .before .bytes-of .result) (c .before .before .before .before .before .before .before .remove .ensures)
+returns c = remove-made _ _ (c .before .before .before .before .before .before .before .before .before .before .before .before .before .bytes-of .ensures) (c .before .before .before .before .before .before .before .remove .ensures)
 
 pub remove-one-spec : {M : Type 1} → statement M
 remove-one-spec =

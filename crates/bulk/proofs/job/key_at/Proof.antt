@@ -1,8 +1,9 @@
--- `key_at` gives a number below n: a remainder is below its divisor.
+-- `key_at` gives the order's key: `keyAt`, in each arm by the order that the arm told.
 -- Assumes nothing.
-use native.Mathlib.Nat.{mod-lt}
-use native.Mathlib.Omega.{arith}
+use mathlib.Core.Path.{ap, sym}
 use borrow.Author.Needs.{needs}
+use Rattle.bulk.specs.Job.{keyAt}
+use Rattle.bulk.specs.declared.job.Order.{Order}
 use Rattle.bulk.proofs.job.key_at.Statement.{statement}
 use Rattle.bulk.proofs.job.key_at.Tie as tie
 
@@ -34,10 +35,10 @@ returns : tie.Need-returns
 returns c = search needs
 
 returns-2 : tie.Need-returns-2
-returns-2 c = search needs
+returns-2 c = sym (ap (λ (o : Order). keyAt o (c .before .before .args .i) (c .before .before .args .n)) (c .enum-told2 .given .1))
 
 returns-3 : tie.Need-returns-3
-returns-3 c = mod-lt _ (omega arith)
+returns-3 c = sym (ap (λ (o : Order). keyAt o (c .before .before .args .i) (c .before .before .args .n)) (c .enum-told3 .given .1))
 
 returns-4 : tie.Need-returns-4
 returns-4 c = search needs
