@@ -4,10 +4,17 @@
 //! Words: the numbers of pairs, else 40, 2000 and 20000.
 
 mod clock;
+#[allow(dead_code)]
+#[path = "../../olybzhan/src/ffi.rs"]
+mod ffi;
+mod lent;
 mod sides;
 
 use clock::{time, time_each};
-use sides::Side;
+use lent::Lent;
+// Where `ffi` finds `Header`.
+use olybzhan as buffers;
+use sides::{Changes, Side};
 use std::hint::black_box;
 use std::time::Duration;
 
@@ -17,24 +24,29 @@ const VALUE: usize = 8;
 const PREFIX: usize = 10;
 /// Keys asked for by turns.
 const ASKED: usize = 64;
-/// The best round counts. In each, the sides take turns.
+/// The best round counts. In each the sides take turns, but for `create`.
 const ROUNDS: usize = 5;
 
 type Pair = (Vec<u8>, Vec<u8>);
-type Sides = [Box<dyn Side>; 3];
+type Sides<S> = [Box<S>; 3];
 
 /// The best time of one call on each side that has it.
 struct Row {
-    call: &'static str,
+    call: String,
     /// How often the index tests W for it, at its full size.
     tests: u32,
     best: [Option<Duration>; 3],
 }
 
 impl Row {
-    fn new(call: &'static str, tests: u32) -> Row {
-        let best = [None; 3];
+    fn new(call: &str, tests: u32) -> Row {
+        let (call, best) = (call.to_string(), [None; 3]);
         Row { call, tests, best }
+    }
+
+    fn header_lent(mut self) -> Row {
+        self.call += "; header lent";
+        self
     }
 
     fn took(&mut self, side: usize, time: Duration) {
@@ -58,10 +70,13 @@ fn main() {
         let pairs = random_pairs(size + more, size as u64);
         let (held, new) = pairs.split_at(size);
         let mut sides = sides::empty();
-        let mut rows = vec![grow(&mut sides, held)];
+        let mut rows = vec![creates(held), grow(&mut sides, held)];
         rows.extend(reads(&sides, held));
         rows.extend(changes(&mut sides, held, new));
-        rows.push(clears(&sides, held));
+        let mut sides = sides::empty_lent();
+        let mut lent = vec![grow(&mut sides, held)];
+        lent.extend(changes(&mut sides, held, new));
+        rows.extend(lent.into_iter().map(Row::header_lent));
         print(size, &rows);
     }
 }
@@ -81,7 +96,21 @@ fn random_pairs(count: usize, seed: u64) -> Vec<Pair> {
     (0..count).map(|_| (bytes(KEY), bytes(VALUE))).collect()
 }
 
-fn grow(sides: &mut Sides, held: &[Pair]) -> Row {
+/// An index that holds these pairs is made an empty one.
+fn creates(held: &[Pair]) -> Row {
+    let mut index = Lent::new();
+    insert_all(&mut index, held);
+    let mut row = Row::new("create", 0);
+    for (place, mut create) in sides::creations(&mut index).into_iter().enumerate() {
+        for _ in 0..ROUNDS {
+            row.took(place, time_each(|_| create()));
+        }
+    }
+    assert_eq!(index.count(), 0);
+    row
+}
+
+fn grow<S: Changes + ?Sized>(sides: &mut Sides<S>, held: &[Pair]) -> Row {
     let mut row = Row::new("insert, all from empty, the mean", 0);
     for (place, side) in sides.iter_mut().enumerate() {
         let all = time(|| insert_all(side.as_mut(), held));
@@ -90,19 +119,25 @@ fn grow(sides: &mut Sides, held: &[Pair]) -> Row {
     row
 }
 
-fn insert_all(side: &mut dyn Side, pairs: &[Pair]) {
+fn insert_all<S: Changes + ?Sized>(side: &mut S, pairs: &[Pair]) {
     for (key, value) in pairs {
         black_box(side.insert(key, value));
     }
 }
 
+fn remove_all<S: Changes + ?Sized>(side: &mut S, pairs: &[Pair]) {
+    for (key, _) in pairs {
+        black_box(side.remove(key));
+    }
+}
+
+const TEST_OF_W: &str = "holds_index: the test of W";
+
 type Read = fn(&dyn Side, &[u8]) -> Option<usize>;
 
 /// How often W is tested, and the call. The key is one that is held.
 const READS: [(&str, u32, Read); 10] = [
-    ("holds_index: the test of W", 1, |side, _| {
-        side.holds_index()
-    }),
+    (TEST_OF_W, 1, |side, _| side.holds_index()),
     ("get", 1, |side, key| Some(side.get(key))),
     ("contains_key", 1, |side, key| Some(side.contains_key(key))),
     ("first_in_range", 1, |side, key| {
@@ -110,7 +145,7 @@ const READS: [(&str, u32, Read); 10] = [
     }),
     ("get_gt", 1, |side, key| Some(side.get_gt(key))),
     ("first", 1, |side, _| Some(side.first())),
-    ("len", 1, |side, _| Some(side.len())),
+    ("len", 1, |side, _| Some(side.count())),
     ("scan_prefix, its one pair listed", 2, |side, key| {
         Some(side.scan_prefix(&key[..PREFIX]))
     }),
@@ -120,10 +155,10 @@ const READS: [(&str, u32, Read); 10] = [
     ("leaf_at", 1, |side, _| side.leaf_at(0)),
 ];
 
-fn reads(sides: &Sides, held: &[Pair]) -> Vec<Row> {
+fn reads(sides: &Sides<dyn Side>, held: &[Pair]) -> Vec<Row> {
     let step = held.len().div_ceil(ASKED);
     let keys: Vec<&[u8]> = held.iter().step_by(step).map(|(key, _)| &key[..]).collect();
-    let row = |&(call, tests, read): &(&'static str, u32, Read)| {
+    let row = |&(call, tests, read): &(&str, u32, Read)| {
         same_answers(sides, &keys, call, read);
         let mut row = Row::new(call, tests);
         for _ in 0..ROUNDS {
@@ -143,7 +178,7 @@ fn reads(sides: &Sides, held: &[Pair]) -> Vec<Row> {
 }
 
 /// That all who have the call did the same work.
-fn same_answers(sides: &Sides, keys: &[&[u8]], call: &str, read: Read) {
+fn same_answers(sides: &Sides<dyn Side>, keys: &[&[u8]], call: &str, read: Read) {
     for key in keys {
         let mut answers = sides.iter().filter_map(|side| read(side.as_ref(), key));
         let first = answers.next();
@@ -151,11 +186,18 @@ fn same_answers(sides: &Sides, keys: &[&[u8]], call: &str, read: Read) {
     }
 }
 
-fn changes(sides: &mut Sides, held: &[Pair], new: &[Pair]) -> Vec<Row> {
+/// What is timed on copies.
+const CHANGES: [&str; 4] = [
+    "insert, a new key",
+    "remove",
+    "insert, a key just removed",
+    "clear",
+];
+
+fn changes<S: Changes + ?Sized>(sides: &mut Sides<S>, held: &[Pair], new: &[Pair]) -> Vec<Row> {
+    same_changes(sides, held, new);
     let mut replace = Row::new("insert, a key that is held", 1);
-    let mut insert = Row::new("insert, a new key", 1);
-    let mut remove = Row::new("remove", 1);
-    let count = new.len() as u32;
+    let mut rows = CHANGES.map(|call| Row::new(call, 1));
     for _ in 0..ROUNDS {
         for (place, side) in sides.iter_mut().enumerate() {
             let each = |turn: usize| {
@@ -163,39 +205,55 @@ fn changes(sides: &mut Sides, held: &[Pair], new: &[Pair]) -> Vec<Row> {
                 black_box(side.insert(key, value));
             };
             replace.took(place, time_each(each));
-            // Again and again, so that the clock's steps don't show.
-            let (mut inserts, mut removes) = (Duration::ZERO, Duration::ZERO);
-            let mut turns = 0;
-            while turns == 0 || inserts < Duration::from_millis(10) && turns < 1_000 {
-                inserts += time(|| insert_all(side.as_mut(), new));
-                removes += time(|| {
-                    for (key, _) in new {
-                        black_box(side.remove(key));
-                    }
-                });
-                turns += 1;
+            let times = on_copies(side.as_ref(), held, new);
+            for (row, time) in rows.iter_mut().zip(times) {
+                row.took(place, time);
             }
-            insert.took(place, inserts / turns / count);
-            remove.took(place, removes / turns / count);
         }
     }
-    vec![replace, insert, remove]
+    [replace].into_iter().chain(rows).collect()
 }
 
-fn clears(sides: &Sides, held: &[Pair]) -> Row {
-    let mut row = Row::new("clear", 1);
-    for _ in 0..ROUNDS {
-        for (place, side) in sides.iter().enumerate() {
-            let mut copy = side.copy(held);
-            row.took(place, time(|| copy.clear()));
-            assert_eq!(copy.len(), 0);
-        }
+/// That all answer changes in the same way: of new keys, held ones and absent ones.
+fn same_changes<S: Changes + ?Sized>(sides: &Sides<S>, held: &[Pair], new: &[Pair]) {
+    let answers = sides.each_ref().map(|side| {
+        let mut copy = side.copy(held);
+        let twice = || new.iter().chain(new);
+        let mut answers: Vec<usize> = twice()
+            .map(|(key, value)| copy.insert(key, value))
+            .collect();
+        answers.push(copy.count());
+        answers.extend(twice().map(|(key, _)| copy.remove(key)));
+        answers.push(copy.count());
+        answers
+    });
+    assert!(answers.iter().all(|these| *these == answers[0]), "changes");
+}
+
+/// The time of one call of each of `CHANGES`. A copy's free bytes lie where the
+/// last new key went; a pair that is removed leaves its own free.
+fn on_copies<S: Changes + ?Sized>(side: &S, held: &[Pair], new: &[Pair]) -> [Duration; 4] {
+    // Several of small ones, so that the clock's steps don't show.
+    let copies = (2_000 / held.len()).clamp(1, 50) as u32;
+    let mut sums = [Duration::ZERO; 4];
+    for _ in 0..copies {
+        let mut copy = side.copy(held);
+        let copy = copy.as_mut();
+        sums[0] += time(|| insert_all(copy, new));
+        sums[1] += time(|| remove_all(copy, new));
+        sums[2] += time(|| insert_all(copy, new));
+        remove_all(copy, new);
+        sums[3] += time(|| copy.clear());
+        assert_eq!(copy.count(), 0);
     }
-    row
+    let [insert, remove, again, clear] = sums.map(|sum| sum / copies);
+    let count = new.len() as u32;
+    [insert / count, remove / count, again / count, clear]
 }
 
 fn print(size: usize, rows: &[Row]) {
-    let test_of_w = rows[1].best[0].expect("the index has it");
+    let test_of_w = rows.iter().find(|row| row.call == TEST_OF_W);
+    let test_of_w = test_of_w.and_then(|row| row.best[0]).expect("a row");
     println!(
         "| {size} pairs: call | index µs | of it W | sled µs | BTreeMap µs | index / sled | index / BTreeMap |"
     );

@@ -1,6 +1,7 @@
-//! The three that are compared, behind the same calls. An answer is a number,
-//! so that the driver can see that all three did the same work.
+//! Those that are compared, behind the same calls. An answer is a number, so
+//! that the driver can see that all did the same work.
 
+use crate::lent::Lent;
 use olybzhan::Index;
 use sled_oracle::Sled;
 use std::collections::BTreeMap;
@@ -10,24 +11,28 @@ use std::ops::Bound::{Excluded, Included, Unbounded};
 /// What the index and sled's leaves are made with. The others have no such
 /// sizes.
 pub const FANOUT: usize = 64;
-const POOL: usize = 4_096;
-const ARENA: usize = 1_048_576;
+pub const POOL: usize = 4_096;
+pub const ARENA: usize = 1_048_576;
 
-pub trait Side {
+pub trait Changes {
+    fn insert(&mut self, key: &[u8], value: &[u8]) -> usize;
+    fn remove(&mut self, key: &[u8]) -> usize;
+    fn clear(&mut self);
+    /// Another with these pairs, which are its own.
+    fn copy(&self, pairs: &[(Vec<u8>, Vec<u8>)]) -> Box<dyn Changes>;
+    /// How many pairs there are.
+    fn count(&self) -> usize;
+}
+
+pub trait Side: Changes {
     fn get(&self, key: &[u8]) -> usize;
     fn contains_key(&self, key: &[u8]) -> usize;
     /// The first pair from the key on, and above it: its lengths.
     fn first_in_range(&self, key: &[u8]) -> usize;
     fn get_gt(&self, key: &[u8]) -> usize;
     fn first(&self) -> usize;
-    fn len(&self) -> usize;
     /// How many pairs have the prefix, by listing them.
     fn scan_prefix(&self, prefix: &[u8]) -> usize;
-    fn insert(&mut self, key: &[u8], value: &[u8]) -> usize;
-    fn remove(&mut self, key: &[u8]) -> usize;
-    fn clear(&mut self);
-    /// Another with these pairs, which are its own.
-    fn copy(&self, pairs: &[(Vec<u8>, Vec<u8>)]) -> Box<dyn Side>;
     /// What only the index has: its test of W, a prefix's range, which asks no
     /// index, and a leaf by its place.
     fn holds_index(&self) -> Option<usize> {
@@ -41,18 +46,62 @@ pub trait Side {
     }
 }
 
+/// The index whose header goes by value, which is the Rust crate's.
 pub fn empty() -> [Box<dyn Side>; 3] {
     let index = Index::new(FANOUT, POOL, ARENA).expect("the greatest sizes");
-    let sled = Sled::new(FANOUT).expect("a fanout of the oracle");
+    [Box::new(index), Box::new(sled()), Box::new(Map::new())]
+}
+
+/// The index whose header is lent.
+pub fn empty_lent() -> [Box<dyn Changes>; 3] {
     [
-        Box::new(index),
-        Box::new(sled),
-        Box::new(BTreeMap::<Vec<u8>, Vec<u8>>::new()),
+        Box::new(Lent::new()),
+        Box::new(sled()),
+        Box::new(Map::new()),
     ]
+}
+
+/// What makes an empty one of each: of the index, `create` in its buffers.
+pub fn creations(index: &mut Lent) -> [Box<dyn FnMut() + '_>; 3] {
+    [
+        Box::new(|| index.create()),
+        Box::new(|| _ = black_box(sled())),
+        Box::new(|| _ = black_box(Map::new())),
+    ]
+}
+
+type Map = BTreeMap<Vec<u8>, Vec<u8>>;
+
+fn sled() -> Sled {
+    Sled::new(FANOUT).expect("a fanout of the oracle")
 }
 
 fn lengths<K: AsRef<[u8]>, V: AsRef<[u8]>>(pair: Option<(K, V)>) -> usize {
     pair.map_or(0, |(key, value)| key.as_ref().len() + value.as_ref().len())
+}
+
+impl Changes for Index {
+    fn insert(&mut self, key: &[u8], value: &[u8]) -> usize {
+        let old = self.insert_into(key, value, &mut [0; 64]).unwrap();
+        old.unwrap_or(0)
+    }
+
+    fn remove(&mut self, key: &[u8]) -> usize {
+        let old = self.remove_into(key, &mut [0; 64]).unwrap();
+        old.unwrap_or(0)
+    }
+
+    fn clear(&mut self) {
+        self.clear().unwrap();
+    }
+
+    fn copy(&self, _: &[(Vec<u8>, Vec<u8>)]) -> Box<dyn Changes> {
+        Box::new(self.clone())
+    }
+
+    fn count(&self) -> usize {
+        self.len().unwrap()
+    }
 }
 
 impl Side for Index {
@@ -77,30 +126,8 @@ impl Side for Index {
         lengths(self.first().unwrap())
     }
 
-    fn len(&self) -> usize {
-        self.len().unwrap()
-    }
-
     fn scan_prefix(&self, prefix: &[u8]) -> usize {
         self.scan_prefix(prefix).map(Result::unwrap).count()
-    }
-
-    fn insert(&mut self, key: &[u8], value: &[u8]) -> usize {
-        let old = self.insert_into(key, value, &mut [0; 64]).unwrap();
-        old.unwrap_or(0)
-    }
-
-    fn remove(&mut self, key: &[u8]) -> usize {
-        let old = self.remove_into(key, &mut [0; 64]).unwrap();
-        old.unwrap_or(0)
-    }
-
-    fn clear(&mut self) {
-        self.clear().unwrap();
-    }
-
-    fn copy(&self, _: &[(Vec<u8>, Vec<u8>)]) -> Box<dyn Side> {
-        Box::new(self.clone())
     }
 
     fn holds_index(&self) -> Option<usize> {
@@ -114,6 +141,32 @@ impl Side for Index {
 
     fn leaf_at(&self, place: usize) -> Option<usize> {
         self.leaf_at(place).unwrap().map(|leaf| leaf.pairs)
+    }
+}
+
+impl Changes for Sled {
+    fn insert(&mut self, key: &[u8], value: &[u8]) -> usize {
+        (**self).insert(key, value).map_or(0, |old| old.len())
+    }
+
+    fn remove(&mut self, key: &[u8]) -> usize {
+        (**self).remove(key).map_or(0, |old| old.len())
+    }
+
+    fn clear(&mut self) {
+        (**self).clear();
+    }
+
+    fn copy(&self, pairs: &[(Vec<u8>, Vec<u8>)]) -> Box<dyn Changes> {
+        let mut other = sled();
+        for (key, value) in pairs {
+            Changes::insert(&mut other, key, value);
+        }
+        Box::new(other)
+    }
+
+    fn count(&self) -> usize {
+        (**self).len()
     }
 }
 
@@ -138,36 +191,35 @@ impl Side for Sled {
         lengths((**self).first())
     }
 
-    fn len(&self) -> usize {
-        (**self).len()
-    }
-
     fn scan_prefix(&self, prefix: &[u8]) -> usize {
         self.scan_prefix_all(prefix).len()
     }
+}
 
+impl Changes for Map {
     fn insert(&mut self, key: &[u8], value: &[u8]) -> usize {
-        (**self).insert(key, value).map_or(0, |old| old.len())
+        let old = self.insert(key.to_vec(), value.to_vec());
+        old.map_or(0, |old| old.len())
     }
 
     fn remove(&mut self, key: &[u8]) -> usize {
-        (**self).remove(key).map_or(0, |old| old.len())
+        self.remove(key).map_or(0, |old| old.len())
     }
 
     fn clear(&mut self) {
-        (**self).clear();
+        self.clear();
     }
 
-    fn copy(&self, pairs: &[(Vec<u8>, Vec<u8>)]) -> Box<dyn Side> {
-        let mut other = Sled::new(FANOUT).expect("a fanout of the oracle");
-        for (key, value) in pairs {
-            Side::insert(&mut other, key, value);
-        }
-        Box::new(other)
+    fn copy(&self, _: &[(Vec<u8>, Vec<u8>)]) -> Box<dyn Changes> {
+        Box::new(self.clone())
+    }
+
+    fn count(&self) -> usize {
+        self.len()
     }
 }
 
-impl Side for BTreeMap<Vec<u8>, Vec<u8>> {
+impl Side for Map {
     fn get(&self, key: &[u8]) -> usize {
         self.get(key).map_or(0, Vec::len)
     }
@@ -188,29 +240,8 @@ impl Side for BTreeMap<Vec<u8>, Vec<u8>> {
         lengths(self.first_key_value())
     }
 
-    fn len(&self) -> usize {
-        self.len()
-    }
-
     fn scan_prefix(&self, prefix: &[u8]) -> usize {
         let pairs = self.range::<[u8], _>((Included(prefix), Unbounded));
         pairs.take_while(|(key, _)| key.starts_with(prefix)).count()
-    }
-
-    fn insert(&mut self, key: &[u8], value: &[u8]) -> usize {
-        let old = self.insert(key.to_vec(), value.to_vec());
-        old.map_or(0, |old| old.len())
-    }
-
-    fn remove(&mut self, key: &[u8]) -> usize {
-        self.remove(key).map_or(0, |old| old.len())
-    }
-
-    fn clear(&mut self) {
-        self.clear();
-    }
-
-    fn copy(&self, _: &[(Vec<u8>, Vec<u8>)]) -> Box<dyn Side> {
-        Box::new(self.clone())
     }
 }

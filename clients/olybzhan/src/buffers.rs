@@ -5,9 +5,14 @@ use alloc::vec::Vec;
 #[repr(C)]
 #[derive(Clone, Copy, Debug, PartialEq, Eq)]
 pub struct Header {
+    /// A leaf holds at most one pair less.
     pub fanout: usize,
+    /// The leaves in use.
     pub leaves: usize,
+    /// The pairs of all leaves.
     pub pairs: usize,
+    /// The bytes of all keys, values and low keys, each in full: never more than
+    /// the arena has.
     pub charge: usize,
 }
 

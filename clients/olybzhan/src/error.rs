@@ -8,8 +8,9 @@ use core::fmt;
 pub enum Error {
     /// 1: an index of such sizes can't be made.
     Shape,
-    /// 2: the buffers hold no index. Safe code never sees it, unless the memory
-    /// itself has failed.
+    /// 2: the buffers hold no index. Safe code sees it only of
+    /// [`Index::resume`](crate::Index::resume), unless the memory itself has
+    /// failed.
     Damaged,
     /// 3: a key, prefix or bound key over [`KEY_LIMIT`](crate::KEY_LIMIT).
     LongKey,

@@ -76,6 +76,36 @@ impl<'a> Index<Lent<'a>> {
     ) -> Result<Index<Lent<'a>>, Error> {
         Index::make(fanout, Lent { dir, slots, arena })
     }
+
+    /// The index that lent buffers hold already, with the [header](Index::header)
+    /// it was left with.
+    ///
+    /// Refused as [`Error::Damaged`] where they hold none with that header.
+    ///
+    /// ```
+    /// # use olybzhan::{Error, Index};
+    /// let (mut dir, mut slots, mut arena) = ([0; 4], [0; 12], [0; 64]);
+    /// let mut index = Index::over(3, &mut dir, &mut slots, &mut arena)?;
+    /// index.insert(b"a", b"1")?;
+    /// let header = index.header();
+    ///
+    /// let index = Index::resume(header, &mut dir, &mut slots, &mut arena)?;
+    /// assert_eq!(index.get(b"a")?, Some(&b"1"[..]));
+    /// # Ok::<(), Error>(())
+    /// ```
+    pub fn resume(
+        header: Header,
+        dir: &'a mut [u32],
+        slots: &'a mut [u64],
+        arena: &'a mut [u8],
+    ) -> Result<Index<Lent<'a>>, Error> {
+        let buffers = Lent { dir, slots, arena };
+        let index = Index { header, buffers };
+        match index.holds_index() {
+            true => Ok(index),
+            false => Err(Error::Damaged),
+        }
+    }
 }
 
 impl<B: Buffers> Index<B> {
@@ -84,6 +114,11 @@ impl<B: Buffers> Index<B> {
         Error::check(reply.refusal, reply.length)?;
         let header = reply.header;
         Ok(Index { header, buffers })
+    }
+
+    /// The header, to be kept with lent buffers for [`resume`](Index::resume).
+    pub fn header(&self) -> Header {
+        self.header
     }
 
     /// The number of pairs.
@@ -119,7 +154,7 @@ impl<B: Buffers> Index<B> {
     /// Gives the key this value, and gives back its old one.
     ///
     /// Refused as [`Error::LongKey`], [`Error::LongValue`], [`Error::NoLeaf`] or
-    /// [`Error::NoRoom`]. A key that is held costs two calls, since the first has
+    /// [`Error::NoRoom`]. A held value that isn't empty costs two calls, since the first has
     /// to ask for the length of the old value: see
     /// [`insert_into`](Index::insert_into).
     ///
@@ -163,7 +198,7 @@ impl<B: Buffers> Index<B> {
 
     /// Takes a key's pair out, and gives back its value.
     ///
-    /// Refused as [`Error::LongKey`]. A key that is held costs two calls, as with
+    /// Refused as [`Error::LongKey`]. A held value that isn't empty costs two calls, as with
     /// [`insert`](Index::insert).
     pub fn remove(&mut self, key: &[u8]) -> Result<Option<Vec<u8>>, Error> {
         with_room(|old| self.remove_into(key, old))

@@ -1,7 +1,7 @@
 //! An ordered map from byte strings to byte strings that lives in fixed buffers
 //! and allocates nothing to keep its pairs. The calls are those of the archive
-//! `libexports.a`, written in Rattle and proved: their answers are those of an
-//! ordered map, on any buffers, and they end.
+//! `libexports.a`, written in Rattle and proved: on any buffers they end, and
+//! refuse or give the answers of an ordered map.
 //!
 //! ```
 //! use olybzhan::{Error, Index};
@@ -47,13 +47,13 @@ mod buffers;
 #[allow(unsafe_code)]
 mod calls;
 mod error;
-// The three functions that are lent the header only the oracle calls.
+// The three functions that are lent the header only the oracle and the benchmark call.
 #[allow(dead_code, unsafe_code)]
 mod ffi;
 mod index;
 mod range;
 
-pub use buffers::{Buffers, Lent, Owned};
+pub use buffers::{Buffers, Header, Lent, Owned};
 pub use error::Error;
 pub use index::{Index, Leaf, Pair};
 pub use range::Range;

@@ -122,3 +122,18 @@ fn lent_buffers_of_other_lengths_are_refused() {
     assert_eq!(index.is_empty(), Ok(true));
     assert!(index.holds_index());
 }
+
+#[test]
+fn a_living_index_is_taken_over_with_its_header_alone() {
+    let (mut dir, mut slots, mut arena) = ([0; 4], [0; 12], [0; 64]);
+    let mut index = Index::over(3, &mut dir, &mut slots, &mut arena).unwrap();
+    let before = index.header();
+    index.insert(b"k", b"v").unwrap();
+    let header = index.header();
+    assert_eq!((header.leaves, header.pairs, header.charge), (1, 1, 2));
+    let refused = Index::resume(before, &mut dir, &mut slots, &mut arena);
+    assert_eq!(refused.unwrap_err(), Error::Damaged);
+    let mut index = Index::resume(header, &mut dir, &mut slots, &mut arena).unwrap();
+    assert_eq!(index.remove(b"k"), Ok(Some(b"v".to_vec())));
+    assert_eq!(index.header(), before);
+}

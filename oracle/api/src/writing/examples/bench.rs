@@ -10,8 +10,7 @@ impl Examples<'_> {
         self.offsets()?;
         self.arena_and_pool()?;
         self.limits()?;
-        self.short_output()?;
-        self.behind_a_prefix()
+        self.short_output()
     }
 
     fn the_run(&mut self) -> Result<(), String> {
@@ -166,24 +165,6 @@ impl Examples<'_> {
                 Put(b"\x61", b"\x03", 2, "old 0102"),
                 Put(b"\x61", b"", 2, "old 03"),
                 Put(b"\x61", b"\x04", 0, "old -"),
-            ],
-        )
-    }
-
-    fn behind_a_prefix(&mut self) -> Result<(), String> {
-        let held = self.fresh(3, 3, 13);
-        self.ask(
-            "A10",
-            held,
-            &[
-                Put(b"\x61\x60", b"", 0, "none"),
-                Put(b"\x61\x61\x61", b"", 0, "none"),
-                Put(b"\x61\x63", b"", 0, "none"),
-                Put(b"\x61\x64", b"", 0, "none"),
-                Leaves(
-                    &["leaf - 6161 0 1", "leaf 6161 6163 1 1", "leaf 6163 * 0 2"],
-                    13,
-                ),
             ],
         )
     }
