@@ -45,12 +45,8 @@ impl Changes for Lent {
             &mut self.header,
             (&mut self.dir, &mut self.slots, &mut self.arena),
             as_mut_ptr,
-            key.as_ptr(),
-            key.len(),
-            value.as_ptr(),
-            value.len(),
-            old.as_mut_ptr(),
-            old.len()
+            reads[key, value],
+            writes[old]
         );
         assert_eq!(answer.refusal, 0);
         answer.length
@@ -63,10 +59,8 @@ impl Changes for Lent {
             &mut self.header,
             (&mut self.dir, &mut self.slots, &mut self.arena),
             as_mut_ptr,
-            key.as_ptr(),
-            key.len(),
-            old.as_mut_ptr(),
-            old.len()
+            reads[key],
+            writes[old]
         );
         assert_eq!(answer.refusal, 0);
         answer.length

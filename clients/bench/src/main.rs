@@ -8,12 +8,16 @@ mod clock;
 #[path = "../../olybzhan/src/ffi.rs"]
 mod ffi;
 mod lent;
+#[allow(dead_code)]
+#[path = "../../../oracle/reference/src/random.rs"]
+mod random;
 mod sides;
 
 use clock::{time, time_each};
 use lent::Lent;
 // Where `ffi` finds `Header`.
 use olybzhan as buffers;
+use random::Random;
 use sides::{Changes, Side};
 use std::hint::black_box;
 use std::time::Duration;
@@ -83,16 +87,9 @@ fn main() {
 
 /// Distinct, since a key is 24 random bytes.
 fn random_pairs(count: usize, seed: u64) -> Vec<Pair> {
-    let mut state = seed.wrapping_add(1).wrapping_mul(0x9e37_79b9_7f4a_7c15);
-    let mut bytes = |length: usize| -> Vec<u8> {
-        let byte = |_| {
-            state ^= state << 13;
-            state ^= state >> 7;
-            state ^= state << 17;
-            (state >> 24) as u8
-        };
-        (0..length).map(byte).collect()
-    };
+    let mut random = Random::new(seed);
+    let mut bytes =
+        |length: usize| -> Vec<u8> { (0..length).map(|_| random.word() as u8).collect() };
     (0..count).map(|_| (bytes(KEY), bytes(VALUE))).collect()
 }
 

@@ -36,12 +36,8 @@ pub fn insert(
         header,
         buffers.parts_mut(),
         as_mut_ptr,
-        key.as_ptr(),
-        key.len(),
-        value.as_ptr(),
-        value.len(),
-        old.as_mut_ptr(),
-        old.len()
+        reads[key, value],
+        writes[old]
     )
 }
 
@@ -51,10 +47,8 @@ pub fn remove(header: Header, buffers: &mut impl Buffers, key: &[u8], old: &mut 
         header,
         buffers.parts_mut(),
         as_mut_ptr,
-        key.as_ptr(),
-        key.len(),
-        old.as_mut_ptr(),
-        old.len()
+        reads[key],
+        writes[old]
     )
 }
 
@@ -63,19 +57,12 @@ pub fn contains_key(header: Header, buffers: &impl Buffers, key: &[u8]) -> Told 
         olybzhan_contains_key_by_value,
         header,
         buffers.parts(),
-        key.as_ptr(),
-        key.len()
+        reads[key]
     )
 }
 
 pub fn get(header: Header, buffers: &impl Buffers, key: &[u8]) -> Place {
-    read!(
-        olybzhan_get_by_value,
-        header,
-        buffers.parts(),
-        key.as_ptr(),
-        key.len()
-    )
+    read!(olybzhan_get_by_value, header, buffers.parts(), reads[key])
 }
 
 /// The bounds are kinds with keys.
@@ -90,14 +77,9 @@ pub fn first_in_range(
         olybzhan_first_in_range_by_value,
         header,
         buffers.parts(),
-        from,
-        to,
-        start.as_ptr(),
-        start.len(),
-        end.as_ptr(),
-        end.len(),
-        out.as_mut_ptr(),
-        out.len()
+        numbers[from, to],
+        reads[start, end],
+        writes[out]
     )
 }
 
@@ -106,10 +88,8 @@ pub fn get_gt(header: Header, buffers: &impl Buffers, key: &[u8], out: &mut [u8]
         olybzhan_get_gt_by_value,
         header,
         buffers.parts(),
-        key.as_ptr(),
-        key.len(),
-        out.as_mut_ptr(),
-        out.len()
+        reads[key],
+        writes[out]
     )
 }
 
@@ -118,13 +98,17 @@ pub fn first(header: Header, buffers: &impl Buffers, out: &mut [u8]) -> Scanned 
         olybzhan_first_by_value,
         header,
         buffers.parts(),
-        out.as_mut_ptr(),
-        out.len()
+        writes[out]
     )
 }
 
 pub fn leaf_at(header: Header, buffers: &impl Buffers, place: usize) -> Shown {
-    read!(olybzhan_leaf_at_by_value, header, buffers.parts(), place)
+    read!(
+        olybzhan_leaf_at_by_value,
+        header,
+        buffers.parts(),
+        numbers[place]
+    )
 }
 
 pub fn scan_prefix(prefix: &[u8], out: &mut [u8]) -> Span {

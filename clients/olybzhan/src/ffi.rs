@@ -213,12 +213,15 @@ unsafe extern "C" {
 
 // Both are safe for the same reason. The functions ask for slices that are live
 // and, where they write, overlap nothing else: that is what `&` and `&mut`
-// promise, and each goes with its own length, in the rest too. Of contents they
-// ask nothing.
+// promise, and each goes with its own length. Of contents they ask nothing.
 
-/// A call that only reads the index: what comes first, the buffers, then the rest.
+/// A call that only reads the index: what comes first, the buffers, then numbers,
+/// slices that are read and slices that are written.
 macro_rules! read {
-    ($function:ident, $first:expr, $buffers:expr $(, $rest:expr)* $(,)?) => {{
+    (
+        $function:ident, $first:expr, $buffers:expr
+        $(, numbers[$($number:expr),*])? $(, reads[$($read:expr),*])? $(, writes[$($write:expr),*])?
+    ) => {{
         let (dir, slots, arena): (&[u32], &[u64], &[u8]) = $buffers;
         unsafe {
             $function(
@@ -229,7 +232,9 @@ macro_rules! read {
                 slots.len(),
                 arena.as_ptr(),
                 arena.len(),
-                $($rest),*
+                $($($number,)*)?
+                $($($read.as_ptr(), $read.len(),)*)?
+                $($($write.as_mut_ptr(), $write.len(),)*)?
             )
         }
     }};
@@ -237,7 +242,10 @@ macro_rules! read {
 
 /// A call that changes it. `$arena` is how the arena goes in.
 macro_rules! change {
-    ($function:ident, $first:expr, $buffers:expr, $arena:ident $(, $rest:expr)* $(,)?) => {{
+    (
+        $function:ident, $first:expr, $buffers:expr, $arena:ident
+        $(, reads[$($read:expr),*])? $(, writes[$($write:expr),*])?
+    ) => {{
         let (dir, slots, arena): (&mut [u32], &mut [u64], &mut [u8]) = $buffers;
         unsafe {
             $function(
@@ -248,7 +256,8 @@ macro_rules! change {
                 slots.len(),
                 arena.$arena(),
                 arena.len(),
-                $($rest),*
+                $($($read.as_ptr(), $read.len(),)*)?
+                $($($write.as_mut_ptr(), $write.len(),)*)?
             )
         }
     }};

@@ -1,28 +1,21 @@
 //! Random calls, answered as by the standard map.
 
+#[allow(dead_code)]
+#[path = "../../../oracle/reference/src/random.rs"]
+mod random;
+
 use olybzhan::{Error, Index};
+use random::Random;
 use std::collections::BTreeMap;
 use std::ops::Bound::{self, Excluded, Included, Unbounded};
 
 type Map = BTreeMap<Vec<u8>, Vec<u8>>;
 type Pairs = Vec<(Vec<u8>, Vec<u8>)>;
 
-/// Of Marsaglia's kind.
-struct Random(u64);
-
 impl Random {
-    fn below(&mut self, limit: usize) -> usize {
-        self.0 ^= self.0 << 13;
-        self.0 ^= self.0 >> 7;
-        self.0 ^= self.0 << 17;
-        (self.0 >> 16) as usize % limit
-    }
-
     fn bytes(&mut self, longest: usize, kinds: &[u8]) -> Vec<u8> {
         let length = self.below(longest + 1);
-        (0..length)
-            .map(|_| kinds[self.below(kinds.len())])
-            .collect()
+        (0..length).map(|_| self.pick(kinds)).collect()
     }
 
     /// Few enough that keys meet again, with long common fronts, FF bytes among
@@ -142,7 +135,7 @@ fn compare_scans(index: &Index, map: &Map, random: &mut Random) {
 }
 
 fn history(seed: u64, fanout: usize, pool: usize, arena: usize) -> usize {
-    let random = &mut Random((seed + 1).wrapping_mul(0x9e37_79b9_7f4a_7c15));
+    let random = &mut Random::new(seed);
     let mut index = Index::new(fanout, pool, arena).unwrap();
     let mut map = Map::new();
     let mut refused = 0;

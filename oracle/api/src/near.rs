@@ -65,21 +65,13 @@ pub fn write(write: Write, header: Header, lent: &mut Buffers, out: &mut [u8]) -
 /// By the one or the other of two functions.
 macro_rules! insert_or_remove {
     ($write:expr, $insert:ident, $remove:ident, $header:expr, $lent:expr, $out:expr) => {{
-        let (buffers, out, out_len) = (parts_mut($lent), $out.as_mut_ptr(), $out.len());
+        let (buffers, out) = (parts_mut($lent), $out);
         match $write {
             Write::Insert(key, value) => {
-                let (key, key_len) = (key.as_ptr(), key.len());
-                let (value, value_len) = (value.as_ptr(), value.len());
-                change!(
-                    $insert, $header, buffers, as_mut_ptr, key, key_len, value, value_len, out,
-                    out_len
-                )
+                change!($insert, $header, buffers, as_mut_ptr, reads[key, value], writes[out])
             }
             Write::Remove(key) => {
-                let (key, key_len) = (key.as_ptr(), key.len());
-                change!(
-                    $remove, $header, buffers, as_mut_ptr, key, key_len, out, out_len
-                )
+                change!($remove, $header, buffers, as_mut_ptr, reads[key], writes[out])
             }
         }
     }};
@@ -120,55 +112,41 @@ fn write_by_value(write: Write, header: Header, lent: &mut Buffers, out: &mut [u
 
 pub fn read(read: Read, header: Header, lent: &Buffers, out: &mut [u8]) -> Reading {
     let buffers = parts(lent);
-    let (out, out_len) = (out.as_mut_ptr(), out.len());
     match read {
         Read::ContainsKey(key) => Reading::Told(read!(
             olybzhan_contains_key_by_value,
             header,
             buffers,
-            key.as_ptr(),
-            key.len(),
+            reads[key]
         )),
-        Read::Get(key) => Reading::Place(read!(
-            olybzhan_get_by_value,
-            header,
-            buffers,
-            key.as_ptr(),
-            key.len(),
-        )),
+        Read::Get(key) => Reading::Place(read!(olybzhan_get_by_value, header, buffers, reads[key])),
         Read::FirstInRange([start_kind, end_kind], start, end) => Reading::Scanned(read!(
             olybzhan_first_in_range_by_value,
             header,
             buffers,
-            start_kind,
-            end_kind,
-            start.as_ptr(),
-            start.len(),
-            end.as_ptr(),
-            end.len(),
-            out,
-            out_len,
+            numbers[start_kind, end_kind],
+            reads[start, end],
+            writes[out]
         )),
         Read::GetGt(key) => Reading::Scanned(read!(
             olybzhan_get_gt_by_value,
             header,
             buffers,
-            key.as_ptr(),
-            key.len(),
-            out,
-            out_len,
+            reads[key],
+            writes[out]
         )),
-        Read::First => Reading::Scanned(read!(
-            olybzhan_first_by_value,
+        Read::First => {
+            Reading::Scanned(read!(olybzhan_first_by_value, header, buffers, writes[out]))
+        }
+        Read::ScanPrefix(prefix) => Reading::Span(unsafe {
+            olybzhan_scan_prefix(prefix.as_ptr(), prefix.len(), out.as_mut_ptr(), out.len())
+        }),
+        Read::LeafAt(at) => Reading::Shown(read!(
+            olybzhan_leaf_at_by_value,
             header,
             buffers,
-            out,
-            out_len
+            numbers[at]
         )),
-        Read::ScanPrefix(prefix) => Reading::Span(unsafe {
-            olybzhan_scan_prefix(prefix.as_ptr(), prefix.len(), out, out_len)
-        }),
-        Read::LeafAt(at) => Reading::Shown(read!(olybzhan_leaf_at_by_value, header, buffers, at)),
     }
 }
 

@@ -1,7 +1,7 @@
 //! Keys that meet, begin each other and stand at the limits; values.
 
-use crate::random::Random;
 use reference::index::KEY_LIMIT;
+use reference::random::Random;
 
 /// The least byte, the greatest, and one between.
 pub const LETTERS: [u8; 3] = [0x00, 0x61, 0xff];

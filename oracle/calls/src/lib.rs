@@ -7,5 +7,4 @@ pub mod answer;
 pub mod call;
 pub mod keys;
 pub mod make;
-pub mod random;
 pub mod words;

@@ -2,8 +2,8 @@
 
 use crate::call::{Bytes, Call, Shape, Span};
 use crate::keys::{self, Keys};
-use crate::random::Random;
 use reference::index::{ARENA_LIMIT, VALUE_LIMIT};
+use reference::random::Random;
 use reference::range::{Bound, Range};
 
 const FANOUTS: [usize; 7] = [3, 4, 5, 6, 7, 8, 16];

@@ -1,7 +1,7 @@
 //! Lines that aren't well formed, of every kind.
 
-use calls::random::Random;
 use calls::words::hex;
+use reference::random::Random;
 
 const GOOD: [&str; 10] = [
     "put 61 01",

@@ -1,9 +1,9 @@
 //! A script's lines from one `new` to the next.
 
 use calls::keys::{self, Keys, near};
-use calls::random::Random;
 use calls::words::hex;
 use reference::index::{Index, VALUE_LIMIT};
+use reference::random::Random;
 use reference::refusal::Refusal;
 
 /// The script program's ceilings.

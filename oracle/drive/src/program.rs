@@ -1,6 +1,6 @@
 //! A program that answers the script on its standard input.
 
-use calls::random::Random;
+use reference::random::Random;
 use std::io::{Read, Write};
 use std::path::Path;
 use std::process::{Child, ChildStdin, Command, Stdio};

@@ -2,7 +2,7 @@
 
 use crate::bad_lines;
 use crate::part::{ARENA, Kept, POOL, Part};
-use calls::random::Random;
+use reference::random::Random;
 use sled_oracle::FANOUTS;
 
 /// Of each kind that document 01's sizes and the ceilings refuse.

@@ -77,6 +77,19 @@ fn read_slip(path: &Path) -> Result<Slip, String> {
     })
 }
 
+fn copy_folder(from: &Path, to: &Path) -> io::Result<()> {
+    fs::create_dir_all(to)?;
+    for entry in fs::read_dir(from)? {
+        let entry = entry?;
+        let copy = to.join(entry.file_name());
+        match entry.file_type()?.is_dir() {
+            true => copy_folder(&entry.path(), &copy)?,
+            false => _ = fs::copy(entry.path(), copy)?,
+        }
+    }
+    Ok(())
+}
+
 /// A copy of the reference, and of the calls that are made on it.
 struct Workshop {
     folder: PathBuf,
@@ -87,12 +100,8 @@ impl Workshop {
         let folder = oracle.join("target/slips");
         for package in ["calls", "reference"] {
             let (from, to) = (oracle.join(package), folder.join(package));
-            fs::create_dir_all(to.join("src"))?;
+            copy_folder(&from.join("src"), &to.join("src"))?;
             fs::copy(from.join("Cargo.toml"), to.join("Cargo.toml"))?;
-            for file in fs::read_dir(from.join("src"))? {
-                let file = file?;
-                fs::copy(file.path(), to.join("src").join(file.file_name()))?;
-            }
         }
         fs::write(folder.join("Cargo.toml"), WORKSPACE)?;
         Ok(Workshop { folder })

@@ -2,6 +2,7 @@
 //! checks itself; here refusals and lent buffers are looked at too.
 
 use reference::index::{Found, Index};
+use reference::random::Random;
 use reference::range::{Bound, Range};
 use reference::refusal::Refusal;
 
@@ -9,33 +10,21 @@ const FANOUTS: [usize; 9] = [3, 4, 5, 6, 7, 8, 16, 63, 64];
 const LETTERS: [u8; 4] = [0x00, 0x61, 0x80, 0xff];
 const UNTOUCHED: u8 = 0xee;
 
-/// The xorshift generator of 64 bits.
-struct Random(u64);
-
-impl Random {
-    fn below(&mut self, limit: usize) -> usize {
-        self.0 ^= self.0 << 13;
-        self.0 ^= self.0 >> 7;
-        self.0 ^= self.0 << 17;
-        (self.0 % limit as u64) as usize
+/// Now and then too long, else below the limit.
+fn length(random: &mut Random, too_long: usize, limit: usize) -> usize {
+    if random.one_in(50) {
+        return too_long;
     }
+    random.below(limit)
+}
 
-    /// Now and then too long, else below the limit.
-    fn length(&mut self, too_long: usize, limit: usize) -> usize {
-        if self.below(50) == 0 {
-            return too_long;
-        }
-        self.below(limit)
-    }
+fn random_key(random: &mut Random) -> Vec<u8> {
+    let length = length(random, 513, 6);
+    (0..length).map(|_| random.pick(&LETTERS)).collect()
+}
 
-    fn key(&mut self) -> Vec<u8> {
-        let length = self.length(513, 6);
-        (0..length).map(|_| LETTERS[self.below(4)]).collect()
-    }
-
-    fn bound(&mut self) -> Bound {
-        [Bound::Included, Bound::Excluded, Bound::Open][self.below(3)]
-    }
+fn bound(random: &mut Random) -> Bound {
+    random.pick(&[Bound::Included, Bound::Excluded, Bound::Open])
 }
 
 fn key_length(found: Result<Option<Found>, Refusal>) -> Result<Option<usize>, Refusal> {
@@ -44,7 +33,7 @@ fn key_length(found: Result<Option<Found>, Refusal>) -> Result<Option<usize>, Re
 
 /// A random key, or the present one next above it.
 fn pick(index: &Index, random: &mut Random) -> Vec<u8> {
-    let key = random.key();
+    let key = random_key(random);
     let from = Range::new(Bound::Included, Bound::Open);
     match index.leaves().first_in_range(from, &key, &[]) {
         Some((present, _)) if random.below(2) == 0 => present.clone(),
@@ -56,9 +45,9 @@ fn pick(index: &Index, random: &mut Random) -> Vec<u8> {
 fn call(index: &mut Index, random: &mut Random, puts: usize) -> usize {
     let before = index.leaves().clone();
     let (key, other) = (pick(index, random), pick(index, random));
-    let value = vec![1; random.length(65_536, 4)];
+    let value = vec![1; length(random, 65_536, 4)];
     let mut out = vec![UNTOUCHED; random.below(6)];
-    let range = Range::new(random.bound(), random.bound());
+    let range = Range::new(bound(random), bound(random));
     let answer = match random.below(20) {
         0..=2 => key_length(index.first_in_range(range, &key, &other, &mut out)),
         3 => key_length(index.first(&mut out)),
@@ -92,7 +81,7 @@ fn walk(fanout: usize, pool: usize, arena_len: usize, random: &mut Random) -> [u
 
 #[test]
 fn tight_pools_and_arenas() {
-    let mut random = Random(0x9e37_79b9_7f4a_7c15);
+    let mut random = Random::new(1);
     for fanout in FANOUTS {
         let mut seen = [0; 9];
         for (pool, arena_len) in [(1, 4_000), (2, 60), (3, 8), (4, 400), (64, 900)] {
@@ -109,12 +98,12 @@ fn tight_pools_and_arenas() {
 #[test]
 fn sizing() {
     let (k, v, p) = (5, 3, 40);
-    let mut random = Random(0x2545_f491_4f6c_dd1d);
+    let mut random = Random::new(2);
     for fanout in FANOUTS {
         let (pool, arena_len) = (p + 1, p * (2 * k + v));
         let mut index = Index::create(fanout, pool, fanout * pool, arena_len).unwrap();
         for _ in 0..3_000 {
-            let (key, value) = (random.key(), vec![1; random.below(v + 1)]);
+            let (key, value) = (random_key(&mut random), vec![1; random.below(v + 1)]);
             let fits = index.len() < p || index.contains_key(&key) == Ok(true);
             let answer = if fits && random.below(5) < 3 {
                 index.insert(&key, &value, &mut [0; 3])

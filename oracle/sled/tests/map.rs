@@ -1,21 +1,26 @@
 //! sled's calls against the standard ordered map, on random changes.
 
+#[allow(dead_code)]
+#[path = "../../reference/src/random.rs"]
+mod random;
+
 use std::collections::BTreeMap;
 use std::ops::Bound::{self, Excluded, Included, Unbounded};
 
+use random::Random;
 use sled_oracle::{FANOUTS, LeafView, Pair, Sled};
 
 type Map = BTreeMap<Vec<u8>, Vec<u8>>;
 
 const STEPS: usize = 2000;
-const LONGEST: u64 = 4;
+const LONGEST: usize = 4;
 
 #[test]
 fn single_calls() {
     for &fanout in FANOUTS {
         let sled = Sled::new(fanout).unwrap();
         let mut map = Map::new();
-        let mut random = Random(fanout as u64);
+        let mut random = Random::new(fanout as u64);
         for _ in 0..STEPS {
             let (key, value) = (random.bytes(LONGEST), random.bytes(2));
             match random.below(1000) {
@@ -42,7 +47,7 @@ fn swaps_and_batches() {
     for &fanout in FANOUTS {
         let sled = Sled::new(fanout).unwrap();
         let mut map = Map::new();
-        let mut random = Random(fanout as u64);
+        let mut random = Random::new(fanout as u64);
         for _ in 0..STEPS {
             if random.below(2) == 0 {
                 swap(&sled, &mut map, &mut random);
@@ -171,30 +176,20 @@ fn equal_bytes(one: &[u8], other: &[u8]) -> usize {
     one.iter().zip(other).take_while(|(a, b)| a == b).count()
 }
 
-/// Marsaglia's xorshift with the shifts 13, 7, 17; the seed isn't 0.
-struct Random(u64);
-
 impl Random {
-    fn below(&mut self, limit: u64) -> u64 {
-        self.0 ^= self.0 << 13;
-        self.0 ^= self.0 >> 7;
-        self.0 ^= self.0 << 17;
-        self.0 % limit
-    }
-
     /// Few letters, so that keys meet, share prefixes and end in FF.
-    fn bytes(&mut self, longest: u64) -> Vec<u8> {
+    fn bytes(&mut self, longest: usize) -> Vec<u8> {
         let length = self.below(longest + 1);
         (0..length)
-            .map(|_| [0x00, 0x61, 0x80, 0xff][self.below(4) as usize])
+            .map(|_| self.pick(&[0x00, 0x61, 0x80, 0xff]))
             .collect()
     }
 
     fn optional_bytes(&mut self) -> Option<Vec<u8>> {
-        (self.below(2) == 0).then(|| self.bytes(2))
+        self.one_in(2).then(|| self.bytes(2))
     }
 
     fn bound<'a>(&mut self, key: &'a [u8]) -> Bound<&'a [u8]> {
-        [Included(key), Excluded(key), Unbounded][self.below(3) as usize]
+        self.pick(&[Included(key), Excluded(key), Unbounded])
     }
 }
