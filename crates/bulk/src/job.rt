@@ -5,7 +5,7 @@ ghost use Rattle.bulk.specs.Job.{Lettered, Numbered, Parsed, call_count, key_at,
 const MOST_PAIRS: usize = 20000;
 
 // The orders of keys, each a letter of the line: r, f, s, and n for no calls.
-#[derive(Drop)]
+#[derive(Clone, Copy)]
 pub enum Order {
     Rising,
     Falling,

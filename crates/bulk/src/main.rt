@@ -20,7 +20,7 @@ use tree_remove::inner::remove;
 const FANOUT: usize = 64;
 
 // What a row of calls left: the header, how many calls were refused, and how many found their key.
-#[derive(Drop)]
+#[derive(Clone, Copy)]
 struct Tally {
     header: Header,
     refused: usize,

@@ -7,7 +7,7 @@ use moves::copy_bytes;
 use spots::{Spot, read_spot};
 
 // The old value's length, or none; or why the call is refused.
-#[derive(Drop)]
+#[derive(Clone, Copy)]
 pub enum Old {
     Value(usize),
     Nothing,
@@ -15,7 +15,7 @@ pub enum Old {
 }
 
 // A changing call's answer, with the header as it then is.
-#[derive(Drop)]
+#[derive(Clone, Copy)]
 pub struct Changed {
     pub header: Header,
     pub old: Old,

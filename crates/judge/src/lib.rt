@@ -17,7 +17,7 @@ use spots::{Sought, Spot, read_spot, seek};
 use words::pair_count;
 
 // A split: `cut` of the leaf's stored pairs stay left, the separator has so many bytes, and the new pair goes to a slot of one half.
-#[derive(Drop)]
+#[derive(Clone, Copy)]
 pub struct Plan {
     pub leaf: usize,
     pub cut: usize,

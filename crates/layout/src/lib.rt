@@ -1,6 +1,6 @@
 // The index header, as the kernel holds it. What buffers and a header hold is defined in specs/.
 #[repr(C)]
-#[derive(Drop)]
+#[derive(Clone, Copy)]
 pub struct Header {
     pub fanout: usize,
     pub leaves: usize,

@@ -64,7 +64,7 @@ impl Leaf {
 }
 
 // A leaf's upper key is the next leaf's low key; the last leaf has none.
-#[derive(Drop)]
+#[derive(Clone, Copy)]
 pub enum Upper {
     At(LowKey),
     Nothing,

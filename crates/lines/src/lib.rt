@@ -6,7 +6,7 @@ ghost use Rattle.lines.specs.Grammar.{Parsed, ◌␣◌, new_word, put_word};
 ghost use Rattle.lines.specs.Pieces.{AllDigits, Cut, Decoded, HexValue, IsBytes, Numbered, OneKey, TenValue};
 
 // The three numbers of `new`.
-#[derive(Drop)]
+#[derive(Clone, Copy)]
 pub struct Sizes {
     pub fanout: usize,
     pub pool: usize,

@@ -1,5 +1,5 @@
 // The types of document 01 that the rules speak of: the kinds of a range's bounds, and the refusals. The rules are in specs/.
-#[derive(Drop)]
+#[derive(Clone, Copy)]
 pub enum Bound {
     Included,
     Excluded,
@@ -14,7 +14,7 @@ pub struct Range {
 }
 
 // In the order of their numbers, 1 to 8; a short output says the length needed.
-#[derive(Drop)]
+#[derive(Clone, Copy)]
 pub enum Refusal {
     Shape,
     Damaged,

@@ -30,7 +30,7 @@ const OUTPUT_LENGTH: usize = 266240;
 
 // What goes on from one piece of input to the next: which index there is, how many bytes of a line are held, whether there may be more input, and
 // whether a read or a write has failed.
-#[derive(Drop)]
+#[derive(Clone, Copy)]
 struct Carried {
     session: Session,
     held: usize,

@@ -26,7 +26,7 @@ pub const POOL_CEILING: usize = 64;
 pub const ARENA_CEILING: usize = 16384;
 
 // Whether there is an index, its header, and how much of the directory buffer and of the arena is its own.
-#[derive(Drop)]
+#[derive(Clone, Copy)]
 pub struct Session {
     pub open: bool,
     pub header: Header,

@@ -11,7 +11,7 @@ use feed::gather;
 pub const ANSWER_LIMIT: usize = 133120;
 
 // A session, the place behind what was written, how far the piece of input was taken, and how many bytes of a line are held.
-#[derive(Drop)]
+#[derive(Clone, Copy)]
 pub struct Fed {
     pub session: Session,
     pub next: usize,

@@ -11,7 +11,7 @@ use leaf::search::find;
 use route::{leaf_of, low_key, owner};
 use words::{Offset, Slot, first_slot, leaf_number, pair_count, unpack_slot};
 
-#[derive(Drop)]
+#[derive(Clone, Copy)]
 pub struct Spot {
     pub leaf: usize,
     pub slot: usize,

@@ -10,14 +10,14 @@ use tree_read::check::holds_index;
 use tree_read::sizes::sizes_met;
 use words::{LowKey, Offset, low_key_slot, pack_directory, pack_low_key};
 
-#[derive(Drop)]
+#[derive(Clone, Copy)]
 pub enum Change {
     Done,
     Refused(Refusal),
 }
 
 // A changing call's answer, with the header as it then is.
-#[derive(Drop)]
+#[derive(Clone, Copy)]
 pub struct Answered {
     pub header: Header,
     pub answer: Change,

@@ -4,15 +4,15 @@ ghost use Rattle.lists.specs.Exact.{Exact};
 ghost use Rattle.words.specs.Words.{SlotFits, Unpacked, slot_word, LowKeyFits, LowKeyUnpacked, low_key_word, word_value, word_leaf, word_count, directory_word, first_slot, low_key_slot};
 
 // A leaf's number in the pool.
-#[derive(Drop)]
+#[derive(Clone, Copy)]
 pub struct LeafNo(pub usize);
 
 // A word's place in the slot buffer.
-#[derive(Drop)]
+#[derive(Clone, Copy)]
 pub struct SlotNo(pub usize);
 
 // A byte's place in the arena.
-#[derive(Drop)]
+#[derive(Clone, Copy)]
 pub struct Offset(pub usize);
 
 // A pair: where its suffix starts, the value right behind, and the length of each.
@@ -23,7 +23,7 @@ pub struct Slot {
     pub value: usize,
 }
 
-#[derive(Drop)]
+#[derive(Clone, Copy)]
 pub struct LowKey {
     pub offset: Offset,
     pub length: usize,

@@ -1,0 +1,20 @@
+-- `number` meets its contract.
+-- Assumes nothing.
+use Rattle.lines.specs.NumberLaws.{none_empty, none_long, none_zero, is_zero}
+use native.Mathlib.Omega.{arith}
+use Rattle.lines.proofs.number.Goals as goal
+
+pub returns-then-word-eq0 : goal.returns-then-word-eq0
+returns-then-word-eq0 c = none_empty _ c.if-word-eq0.true
+
+pub returns-then-word-gt9 : goal.returns-then-word-gt9
+returns-then-word-gt9 c = none_long _ c.if-word-gt9.true
+
+pub returns-then-word-eq1 : goal.returns-then-word-eq1
+returns-then-word-eq1 c = is_zero _ c.if-word-eq48.true c.if-word-eq1.true
+
+pub returns-then-word-eq48 : goal.returns-then-word-eq48
+returns-then-word-eq48 c = none_zero _ c.if-word-eq48.true (omega arith)
+
+pub counted-requires : goal.counted-requires
+counted-requires c = (omega arith, omega arith, c.if-word-eq48.false)

@@ -1,0 +1,12 @@
+-- `order::common` meets its contract. The invariant: the first i bytes are equal.
+-- Assumes nothing.
+use Prim.Native.Nat.{◌-◌}
+use lib.ListN.{length}
+use Rattle.order.proofs.Steps.{Agree}
+use Rattle.order.proofs.common.Given as goal
+
+abbrev pub invariant-loop-i : goal.invariant-loop-i
+invariant-loop-i l = Agree l.a l.b l.i
+
+abbrev pub decreases-loop-i : goal.decreases-loop-i
+decreases-loop-i l = length l.a - l.i

@@ -1,0 +1,13 @@
+-- `owner` meets its contract (L1). The invariant: the low key of leaf `low` is not above the key; that of leaf `high`, where there is one,
+-- is above it.
+-- Assumes nothing.
+use Prim.Native.Nat.{◌-◌}
+use Rattle.layout.specs.Lays.{buffers}
+use Rattle.route.proofs.Steps.{Narrowed}
+use Rattle.route.proofs.owner.Given as goal
+
+abbrev pub invariant-loop-high : goal.invariant-loop-high
+invariant-loop-high l = Narrowed (buffers l.h l.slots l.arena) l.dir l.h.leaves l.key l.low l.high
+
+abbrev pub decreases-loop-high : goal.decreases-loop-high
+decreases-loop-high l = l.high - l.low

@@ -1,0 +1,54 @@
+-- `serve` meets its contract.
+-- Assumes nothing.
+use lib.ListN.{take}
+use lib.Seq.{length-take-le}
+use mathlib.Core.Path.{sym}
+use Rattle.lines.specs.declared.Line.TheVariants.{Bad, Del, Get, Leaves, Next, Put}
+use Rattle.session.proofs.Keys.{bad_key}
+use Rattle.session.specs.ServeLaws.{bad_asked, bad_served, del_within, get_asked, get_served, get_within, leaves_asked, leaves_served, next_asked, next_served, next_within, put-within, told_served}
+use Rattle.session.proofs.serve.Goals as goal
+
+pub slice_bounds-reply_put-end : goal.slice_bounds-reply_put-end
+slice_bounds-reply_put-end c = sym (length-take-le _ _ (put-within c.requires c.in-Put.is).0)
+
+pub slice_bounds-reply_put-end-in-Put : goal.slice_bounds-reply_put-end-in-Put
+slice_bounds-reply_put-end-in-Put c = sym (length-take-le _ _ (put-within c.requires c.in-Put.is).1)
+
+pub slice_bounds-reply_get-end : goal.slice_bounds-reply_get-end
+slice_bounds-reply_get-end c = sym (length-take-le _ _ (get_within c.requires c.in-Get.is))
+
+pub reply_get-requires : goal.reply_get-requires
+reply_get-requires c = get_asked c.requires.asked (take c.in-Get.n c.args.key.now)
+
+pub slice_bounds-reply_next-end : goal.slice_bounds-reply_next-end
+slice_bounds-reply_next-end c = sym (length-take-le _ _ (next_within c.requires c.in-Next.is))
+
+pub reply_next-requires : goal.reply_next-requires
+reply_next-requires c = next_asked c.requires.asked (take c.in-Next.n c.args.key.now)
+
+pub reply_leaves-requires : goal.reply_leaves-requires
+reply_leaves-requires c = leaves_asked c.requires.asked
+
+pub slice_bounds-reply_del-end : goal.slice_bounds-reply_del-end
+slice_bounds-reply_del-end c = sym (length-take-le _ _ (del_within c.requires c.in-Del.is))
+
+pub write_bad-requires : goal.write_bad-requires
+write_bad-requires c = bad_asked c.requires.asked
+
+pub returns-in-Put : goal.returns-in-Put
+returns-in-Put c = told_served c.args.line (Put c.in-Put.n c.in-Put.m) c.args.key.now c.args.value.now c.in-Put.is c.reply_put.ensures
+
+pub returns-in-Get : goal.returns-in-Get
+returns-in-Get c = told_served c.args.line (Get c.in-Get.n) c.args.key.now c.args.value.now c.in-Get.is (get_served (take c.in-Get.n c.args.key.now) c.reply_get.ensures)
+
+pub returns-in-Next : goal.returns-in-Next
+returns-in-Next c = told_served c.args.line (Next c.in-Next.n) c.args.key.now c.args.value.now c.in-Next.is (next_served _ _ _ c.requires.asked.old_long c.reply_next.ensures)
+
+pub returns-in-Leaves : goal.returns-in-Leaves
+returns-in-Leaves c = told_served c.args.line Leaves c.args.key.now c.args.value.now c.in-Leaves.is (leaves_served c.reply_leaves.ensures)
+
+pub returns-in-Del : goal.returns-in-Del
+returns-in-Del c = told_served c.args.line (Del c.in-Del.n) c.args.key.now c.args.value.now c.in-Del.is c.reply_del.ensures
+
+pub returns-in-New : goal.returns-in-New
+returns-in-New c = told_served c.args.line Bad c.args.key.now c.args.value.now (bad_key c.args.line c.in-New.in-New-own.keys6 c.requires.ordinary) (bad_served c.write_bad.ensures)

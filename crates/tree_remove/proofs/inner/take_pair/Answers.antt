@@ -1,0 +1,31 @@
+-- `inner::take_pair` meets its contract.
+-- Assumes nothing.
+use mathlib.Core.Logic.{inl, inr}
+use Rattle.tree_remove.specs.TakeLaws.{take_last, take_left, take_merged, take_merges, take-place, take_small}
+use native.Mathlib.Omega.{arith}
+use Rattle.tree_remove.proofs.inner.take_pair.Goals as goal
+
+pub remove_pair-r-requires : goal.remove_pair-r-requires
+remove_pair-r-requires c = c.requires
+
+pub offset_bounds-dir-j : goal.offset_bounds-dir-j
+offset_bounds-dir-j c = omega (arith, take_small c.requires)
+
+pub bounds-dir-j : goal.bounds-dir-j
+bounds-dir-j c = omega (arith, take-place c.requires, (c.remove_pair-r.ensures c.requires.key).same_dir)
+
+pub overflow_add-j : goal.overflow_add-j
+overflow_add-j c = omega (arith, take_small c.requires)
+
+pub merge_leaf-requires : goal.merge_leaf-requires
+merge_leaf-requires c = take_merges c.remove_pair-r.ensures c.pair_count.ensures.0 c.if-pair_count-eq0.true c.if-j-r.true c.requires
+
+pub returns-then-j-r : goal.returns-then-j-r
+returns-then-j-r c = take_merged c.remove_pair-r.ensures c.pair_count.ensures.0 c.if-pair_count-eq0.true c.if-j-r.true c.merge_leaf.ensures
+
+pub returns : goal.returns
+returns c =
+    elim c.else-pair_count-eq0.either [
+      | inl u ↦ take_last c.remove_pair-r.ensures u.1
+      | inr u ↦ take_left c.remove_pair-r.ensures c.pair_count.ensures.0 u
+    ]
