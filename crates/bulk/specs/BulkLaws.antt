@@ -46,11 +46,11 @@ remove_key e x = rw e at x
 
 -- a row of calls counts no call twice
 
-refused_most : {one : Call} {t₀ t : Tally} {s₀ s : Store} {i : ℕ} → Calls one t₀ s₀ i t s → t.refused ≤ t₀.refused + i
+refused_most : {one : Call} {t₀ : Tally} {s₀ : Store} {t : Tally} {s : Store} {i : ℕ} → Calls one t₀ s₀ i t s → t.refused ≤ t₀.refused + i
 refused_most start = omega arith
 refused_most (more {c = c} a o n) = omega (arith, refused_most a, n.refused_is, refusals_most c.old)
 
-found_most : {one : Call} {t₀ t : Tally} {s₀ s : Store} {i : ℕ} → Calls one t₀ s₀ i t s → t.found ≤ t₀.found + i
+found_most : {one : Call} {t₀ : Tally} {s₀ : Store} {t : Tally} {s : Store} {i : ℕ} → Calls one t₀ s₀ i t s → t.found ≤ t₀.found + i
 found_most start = omega arith
 found_most (more {c = c} a o n) = omega (arith, found_most a, n.found_is, finds_most c.old)
 

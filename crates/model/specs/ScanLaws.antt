@@ -123,12 +123,14 @@ first_past r s e p m h a =
 pub open_start : (r : Range) (s s' e : Bytes) (m : List Pair) → r.start ≡ Open → first_in r s e m ≡ first_in r s' e m
 unfolding first_in
 open_start r s s' e [] h = refl
-open_start r s s' e (p ∷ m) h = rw (open_start r s s' e m h, h)
+open_start r s s' e (p ∷ m) h =
+    let i : past_start r.start s p.key ≡ past_start r.start s' p.key = rw h in rw (i, open_start r s s' e m h)
 
 pub open_end : (r : Range) (s e e' : Bytes) (m : List Pair) → r.end ≡ Open → first_in r s e m ≡ first_in r s e' m
 unfolding first_in
 open_end r s e e' [] h = refl
-open_end r s e e' (p ∷ m) h = rw (open_end r s e e' m h, h)
+open_end r s e e' (p ∷ m) h =
+    let i : before_end r.end e p.key ≡ before_end r.end e' p.key = rw h in rw (i, open_end r s e e' m h)
 
 pub found_open_start : (r : Range) (s s' e : Bytes) (ns : List Node) → r.start ≡ Open → range_found r s e ns ≡ range_found r s' e ns
 found_open_start r s s' e ns h = rw (open_start r s s' e (pairs_of ns) h, h)

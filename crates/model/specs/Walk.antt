@@ -5,7 +5,7 @@ use Rattle.std.proofs.Math.Bool.{and-eq-true_iff}
 use Rattle.std.proofs.lemmas.Bool.{false≢true}
 use mathlib.Core.List.{List, [], ◌∷◌}
 use Rattle.std.proofs.Math.Option.{Option, none, some}
-use Rattle.std.proofs.Common.{◌∙◌, take_all}
+use Rattle.std.proofs.Common.{◌∙◌, subst, take_all}
 use Rattle.std.proofs.Math.Path.{ap, refl, sym}
 use native.Mathlib.Omega.{arith}
 use Rattle.lists.specs.All.{All, all_mono}
@@ -126,7 +126,9 @@ module _ (r : Range) (s e : Bytes) where
         | holds i ↦
             (let f : q ∷ within r s e m ≡ p ∷ w = rw i at h in
             let k : q.key ≡ p.key = cc in
-            rw (← k, cmp_refl q.key) (within_past q.key m ((and-eq-true_iff _ _).0 i).0 a.0 ∙ cc))
+            let same : within r s e m ≡ w = cc in
+            let on : within (onward r) p.key e m ≡ w = subst (λ x. within (onward r) x e m ≡ w) k (within_past q.key m ((and-eq-true_iff _ _).0 i).0 a.0 ∙ same) in
+            rw (← k, cmp_refl q.key) on)
         | fails i ↦
             (let f : within r s e m ≡ p ∷ w = rw i at h in
             let l : All (Above q.key) (p ∷ w) = rw f at (all_within (Above q.key) m a.0) in

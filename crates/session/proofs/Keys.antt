@@ -9,20 +9,13 @@ use denote.Enum.Declared.{tag_of}
 use types.Run.{OneOf}
 use Rattle.lines.specs.contracts.Line.{the_type}
 use Rattle.lines.specs.declared.Line.{Line}
+use Rattle.lines.specs.declared.Sizes.{Sizes}
 use Rattle.lines.specs.declared.Line.TheVariants.{Bad, Del, Get, Leaves, New, Next, Put}
 use Rattle.session.specs.Serving.{Ordinary}
 
-not_first : {x : ℕ} → x ≡ 0 → OneOf (1 ∷ 2 ∷ 3 ∷ 4 ∷ 5 ∷ 6 ∷ []) x → ⊥
-not_first z (inl e) = omega arith
-not_first z (inr (inl e)) = omega arith
-not_first z (inr (inr (inl e))) = omega arith
-not_first z (inr (inr (inr (inl e)))) = omega arith
-not_first z (inr (inr (inr (inr (inl e))))) = omega arith
-not_first z (inr (inr (inr (inr (inr e))))) = omega arith
-
 -- all but `new`
-pub ordinary_key : (line : Line) → OneOf (1 ∷ 2 ∷ 3 ∷ 4 ∷ 5 ∷ 6 ∷ []) (tag_of the_type line) → Ordinary line
-ordinary_key (New s) k = not_first refl k
+pub ordinary_key : (line : Line) → ((s : Sizes) → line ≡ New s → ⊥) → Ordinary line
+ordinary_key (New s) k = k s refl
 ordinary_key (Put n m) k = tt
 ordinary_key (Get n) k = tt
 ordinary_key (Del n) k = tt

@@ -49,7 +49,7 @@ upper_whole low (some u) = ap some (ap (λ (t : Bytes). t ++ drop (common low u)
 -- words in order are inside
 words_inside : (arena : List ℕ) (end : ℕ) (ws : List ℕ) → InOrder end (map word_extent ws) (length arena) → All (WordInside arena) ws
 words_inside arena end [] o = tt
-words_inside arena end (w ∷ ws) o = (order_top _ (map word_extent ws) (length arena) o.1, words_inside arena _ ws o.1)
+words_inside arena end (w ∷ ws) o = (order_top _ (map word_extent ws) (length arena) o.1, words_inside arena ((word_extent w).at + (word_extent w).size) ws o.1)
 
 -- where its parts end, and how many they are
 

@@ -12,4 +12,4 @@ pub answer_piece-requires : goal.answer_piece-requires
 answer_piece-requires c = c.requires
 
 pub returns : goal.returns
-returns c = got_some _ _ _ _ (to_z-of_z w64 _ c.ranges.got) c.if-got-le0.false (to_z-of_z w64 _ c.ranges.got) c.count-n.ensures.1 c.answer_piece.ensures
+returns c = got_some _ _ _ _ (to_z-of_z w64 _ c.ranges.got) c.if-got-le0.false (to_z-of_z w64 _ c.ranges.got) c.count-n.ensures.value c.answer_piece.ensures

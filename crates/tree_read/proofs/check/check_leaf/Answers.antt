@@ -28,16 +28,16 @@ check_pairs-requires c =
 pub returns-in_default : goal.returns-in_default
 returns-in_default c =
     leaf_pairs _ _ _ _ _ _ _ c.requires _ _ _ c.prefix_length-prefix.ensures (first_is _ _ _ _ c.first_slot-first.ensures c.leaf_number.ensures.0) c.pair_count-count.ensures.0
-    (pairs_failed _ _ _ _ _ _ _ c.in_default.is c.check_pairs.ensures)
+    (pairs_failed c.args.slots.now c.args.arena.now c.first_slot-first.result.0 c.pair_count-count.result c.prefix_length-prefix.result c.args.low c.args.upper c.in_default.is c.check_pairs.ensures)
 
 pub overflow_add-result : goal.overflow_add-result
 overflow_add-result c =
-    let o = pairs_sound _ _ _ _ _ _ _ c.in-Sound.is c.check_pairs.ensures in
+    let o = pairs_sound _ _ _ _ _ _ _ refl c.in-Sound.ensures in
     omega (arith, o.1.charge_few, c.pair_count-count.ensures.1, c.requires.low_stands)
 
 pub returns : goal.returns
 returns c =
-    let o = pairs_sound _ _ _ _ _ _ _ c.in-Sound.is c.check_pairs.ensures in
+    let o = pairs_sound _ _ _ _ _ _ _ refl c.in-Sound.ensures in
     leaf_all _ _ _ _ _ _ _ c.requires _ _ _ c.prefix_length-prefix.ensures (first_is _ _ _ _ c.first_slot-first.ensures c.leaf_number.ensures.0) c.pair_count-count.ensures.0
     _ _ (omega (arith, c.if-low-end.false)) (c.low_below.ensures.sound c.if-not-low_below.false) (omega (arith, c.if-fanout-count.false))
     ((c.not_empty.ensures _).sound c.if-not-not_empty.false) o.0 o.1 c.pair_count-count.ensures.1 refl

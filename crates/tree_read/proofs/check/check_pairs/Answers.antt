@@ -26,12 +26,12 @@ check_rest-requires c =
 pub returns-in_default : goal.returns-in_default
 returns-in_default c =
     pairs_rest _ _ _ _ _ _ _ c.requires (omega arith)
-    (rest_failed _ _ _ _ _ c.in_default.is c.check_rest.ensures)
+    (rest_failed c.args.slots.now c.args.arena.now c.args.first.0 c.args.count c.args.prefix c.in_default.is c.check_rest.ensures)
 
 pub last_ok-requires : goal.last_ok-requires
 last_ok-requires c =
     let p = c.requires in
-    let o = rest_sound _ _ _ _ _ c.in-Sound.is c.check_rest.ensures in
+    let o = rest_sound _ _ _ _ _ refl c.in-Sound.ensures in
     (omega (arith, p.in_slots), pairs_end _ _ _ _ _ _ _ p (omega arith) (c.first_ok.ensures.sound c.if-not-first_ok.false) o.0, p.upper_stands)
 
 pub returns-then-not-last_ok : goal.returns-then-not-last_ok
@@ -40,6 +40,6 @@ returns-then-not-last_ok c =
 
 pub returns : goal.returns
 returns c =
-    let o = rest_sound _ _ _ _ _ c.in-Sound.is c.check_rest.ensures in
+    let o = rest_sound _ _ _ _ _ refl c.in-Sound.ensures in
     pairs_all _ _ _ _ _ _ _ c.requires (omega arith) _ (c.first_ok.ensures.sound c.if-not-first_ok.false) o.0 o.1
     (c.last_ok.ensures.sound c.if-not-last_ok.false)

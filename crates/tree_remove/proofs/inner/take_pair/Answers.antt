@@ -4,6 +4,7 @@ use mathlib.Core.Logic.{inl, inr}
 use Rattle.tree_remove.specs.TakeLaws.{take_last, take_left, take_merged, take_merges, take-place, take_small}
 use native.Mathlib.Omega.{arith}
 use Rattle.tree_remove.proofs.inner.take_pair.Goals as goal
+use Rattle.tree_remove.proofs.inner.take_pair.Goals.{else-pair_count-eq0-via-then-pair_count-eq0+else-j-r, else-pair_count-eq0-via-else-pair_count-eq0}
 
 pub remove_pair-r-requires : goal.remove_pair-r-requires
 remove_pair-r-requires c = c.requires
@@ -25,7 +26,7 @@ returns-then-j-r c = take_merged c.remove_pair-r.ensures c.pair_count.ensures.0 
 
 pub returns : goal.returns
 returns c =
-    elim c.else-pair_count-eq0.either [
-      | inl u ↦ take_last c.remove_pair-r.ensures u.1
-      | inr u ↦ take_left c.remove_pair-r.ensures c.pair_count.ensures.0 u
+    elim c.else-pair_count-eq0.branch [
+      | else-pair_count-eq0-via-then-pair_count-eq0+else-j-r w ↦ take_last c.remove_pair-r.ensures w.if-j-r.false
+      | else-pair_count-eq0-via-else-pair_count-eq0 w ↦ take_left c.remove_pair-r.ensures c.pair_count.ensures.0 w.if-pair_count-eq0.false
     ]
