@@ -9,8 +9,7 @@ use layout::Header;
 
 // A new pair, or a new value for a key that has one, whose old value is written to `out`. Refused as 2, 3, 4, 5, 7 or 8, the header is as
 // it came.
-#[unsafe(no_mangle)]
-pub extern "C" fn olybzhan_insert(
+pub fn olybzhan_insert(
     h: &mut Header,
     dir: &mut [u32],
     slots: &mut [u64],
@@ -26,8 +25,7 @@ pub extern "C" fn olybzhan_insert(
 
 // A key's pair taken out, its value written to `out`. Where the key has none, nothing is changed. Refused as 2, 3 or 5, the header is as it
 // came.
-#[unsafe(no_mangle)]
-pub extern "C" fn olybzhan_remove(
+pub fn olybzhan_remove(
     h: &mut Header,
     dir: &mut [u32],
     slots: &mut [u64],
@@ -41,13 +39,7 @@ pub extern "C" fn olybzhan_remove(
 }
 
 // An index made fresh again. Refused as 2, the header is as it came.
-#[unsafe(no_mangle)]
-pub extern "C" fn olybzhan_clear(
-    h: &mut Header,
-    dir: &mut [u32],
-    slots: &mut [u64],
-    arena: &[u8],
-) -> Told
+pub fn olybzhan_clear(h: &mut Header, dir: &mut [u32], slots: &mut [u64], arena: &[u8]) -> Told
     ensures { ClearReply h.old dir.old slots.old arena.now dir.new slots.new (with_header result h.new) }
 {
     tell_change(clear(h, dir, slots, arena))

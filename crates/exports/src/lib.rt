@@ -109,21 +109,14 @@ fn tell_answered(a: Answered) -> Reply
 }
 
 // W: whether header and buffers hold an index.
-#[unsafe(no_mangle)]
-pub extern "C" fn olybzhan_holds_index_by_value(
-    h: Header,
-    dir: &[u32],
-    slots: &[u64],
-    arena: &[u8],
-) -> bool
+pub fn olybzhan_holds_index_by_value(h: Header, dir: &[u32], slots: &[u64], arena: &[u8]) -> bool
     ensures { Exact result (W h dir.now slots.now arena.now) }
 {
     holds_index(h, dir, slots, arena)
 }
 
 // A fresh index. Refused as 1, the header is all zero.
-#[unsafe(no_mangle)]
-pub extern "C" fn olybzhan_create_by_value(
+pub fn olybzhan_create_by_value(
     fanout: usize,
     dir: &mut [u32],
     slots: &mut [u64],
@@ -135,21 +128,14 @@ pub extern "C" fn olybzhan_create_by_value(
 }
 
 // An index made fresh again. Refused as 2, the header is as it came.
-#[unsafe(no_mangle)]
-pub extern "C" fn olybzhan_clear_by_value(
-    h: Header,
-    dir: &mut [u32],
-    slots: &mut [u64],
-    arena: &[u8],
-) -> Reply
+pub fn olybzhan_clear_by_value(h: Header, dir: &mut [u32], slots: &mut [u64], arena: &[u8]) -> Reply
     ensures { ClearReply h dir.old slots.old arena.now dir.new slots.new result }
 {
     tell_answered(clear(h, dir, slots, arena))
 }
 
 // The number of pairs, in `length`. Refused as 2.
-#[unsafe(no_mangle)]
-pub extern "C" fn olybzhan_len_by_value(h: Header, dir: &[u32], slots: &[u64], arena: &[u8]) -> Told
+pub fn olybzhan_len_by_value(h: Header, dir: &[u32], slots: &[u64], arena: &[u8]) -> Told
     ensures { LenReply h dir.now slots.now arena.now result }
 {
     tell_length(len(h, dir, slots, arena))

@@ -150,8 +150,7 @@ fn tell_shown(a: tree_get::Shown) -> Shown
 }
 
 // Whether the index holds the key, 1 or 0 in `length`. Refused as 2 or 3.
-#[unsafe(no_mangle)]
-pub extern "C" fn olybzhan_contains_key_by_value(
+pub fn olybzhan_contains_key_by_value(
     h: Header,
     dir: &[u32],
     slots: &[u64],
@@ -164,8 +163,7 @@ pub extern "C" fn olybzhan_contains_key_by_value(
 }
 
 // Where the key's value lies in the arena. Refused as 2 or 3.
-#[unsafe(no_mangle)]
-pub extern "C" fn olybzhan_get_by_value(
+pub fn olybzhan_get_by_value(
     h: Header,
     dir: &[u32],
     slots: &[u64],
@@ -178,8 +176,7 @@ pub extern "C" fn olybzhan_get_by_value(
 }
 
 // The leaf at a place of the leaf list, counted in key order from 0. Refused as 2.
-#[unsafe(no_mangle)]
-pub extern "C" fn olybzhan_leaf_at_by_value(
+pub fn olybzhan_leaf_at_by_value(
     h: Header,
     dir: &[u32],
     slots: &[u64],

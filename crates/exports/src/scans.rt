@@ -60,8 +60,7 @@ fn tell_prefixed(a: Prefixed) -> Span
 }
 
 // The range of a prefix, its end written to `out`. Refused as 3 or 5.
-#[unsafe(no_mangle)]
-pub extern "C" fn olybzhan_scan_prefix(prefix: &[u8], out: &mut [u8]) -> Span
+pub fn olybzhan_scan_prefix(prefix: &[u8], out: &mut [u8]) -> Span
     ensures { PrefixReply prefix.now out.old out.new result }
 {
     tell_prefixed(scan_prefix(prefix, out))
@@ -126,8 +125,7 @@ fn tell_scan(a: Scan) -> Scanned
 }
 
 // The first pair in a range, its bound kinds by their numbers. Refused as 2, 3, 6 or 5.
-#[unsafe(no_mangle)]
-pub extern "C" fn olybzhan_first_in_range_by_value(
+pub fn olybzhan_first_in_range_by_value(
     h: Header,
     dir: &[u32],
     slots: &[u64],
@@ -148,8 +146,7 @@ pub extern "C" fn olybzhan_first_in_range_by_value(
 }
 
 // The first pair above a key. Refused as 2, 3 or 5.
-#[unsafe(no_mangle)]
-pub extern "C" fn olybzhan_get_gt_by_value(
+pub fn olybzhan_get_gt_by_value(
     h: Header,
     dir: &[u32],
     slots: &[u64],
@@ -163,8 +160,7 @@ pub extern "C" fn olybzhan_get_gt_by_value(
 }
 
 // The first pair of all. Refused as 2 or 5.
-#[unsafe(no_mangle)]
-pub extern "C" fn olybzhan_first_by_value(
+pub fn olybzhan_first_by_value(
     h: Header,
     dir: &[u32],
     slots: &[u64],

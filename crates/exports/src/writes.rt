@@ -70,8 +70,7 @@ fn tell_changed(a: Changed) -> OldReply
 
 // A new pair, or a new value for a key that has one, whose old value is written to `out`. Refused as 2, 3, 4, 5, 7 or 8, the header is as
 // it came.
-#[unsafe(no_mangle)]
-pub extern "C" fn olybzhan_insert_by_value(
+pub fn olybzhan_insert_by_value(
     h: Header,
     dir: &mut [u32],
     slots: &mut [u64],
@@ -87,8 +86,7 @@ pub extern "C" fn olybzhan_insert_by_value(
 
 // A key's pair taken out, its value written to `out`. Where the key has none, nothing is changed. Refused as 2, 3 or 5, the header is as it
 // came.
-#[unsafe(no_mangle)]
-pub extern "C" fn olybzhan_remove_by_value(
+pub fn olybzhan_remove_by_value(
     h: Header,
     dir: &mut [u32],
     slots: &mut [u64],
