@@ -2,8 +2,9 @@
 -- Assumes nothing.
 use Rattle.std.specs.Prelude.{ℕ, ◌+◌, ◌*◌, ◌/◌, ◌%◌, ◌≤◌, ◌<◌, [], ◌++◌, ◌∷◌, ◌≡◌, refl, get_or, length, set}
 use Rattle.std.proofs.Common.{append_assoc, sym, ap, subst, ◌∙◌, arith, length-append, length-set}
-use Rattle.lists.specs.Fill.{Filling, fill_done, fill_step}
-use Rattle.lists.specs.Part.{put-append, put_one}
+use Rattle.lists.specs.Fill.{Filling}
+use Rattle.lists.proofs.FillLaws.{fill_done, fill_step}
+use Rattle.lists.proofs.PartLaws.{put-append, put_one}
 use Rattle.order.specs.Bytes.{Bytes}
 use Rattle.lines.specs.Grammar.{Number, ◌␣◌, bytes_text, digit_of, hex_of, number_text}
 use Rattle.lines.specs.HexLaws.{hex_first, hex_length, hex_second, hexed}

@@ -11,10 +11,11 @@ use Rattle.layout.specs.Buffers.{Buffers, low_word, slot_words}
 use Rattle.layout.specs.EditLaws.{words_long}
 use Rattle.layout.specs.FrameLaws.{first_of}
 use Rattle.layout.specs.Order.{word_extent}
-use Rattle.layout.specs.OrderLaws.{order_top}
+use Rattle.lists.proofs.ExtentLaws.{order_top}
 use Rattle.layout.specs.RegionLaws.{Owns, owns_kept}
 use Rattle.layout.specs.SlideLaws.{slide_low, slide_word}
-use Rattle.lists.specs.Part.{get_or-part, length-put, part, put, put_one}
+use Rattle.lists.proofs.PartLaws.{get_or-part, length-put, put_one}
+use Rattle.lists.specs.Part.{part, put}
 use Rattle.model.specs.Leaves.{Node}
 use Rattle.words.specs.Laws.{offset_of_slot, suffix_of_slot, suffix_small, value_of_slot, value_small}
 use Rattle.words.specs.Words.{LowKeyUnpacked, Unpacked, first_slot, low_key_slot, low_key_word, slot_word, word_count, word_leaf, word_offset, word_suffix, word_value}

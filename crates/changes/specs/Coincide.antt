@@ -17,7 +17,8 @@ use Rattle.layout.specs.LaysParts.{WordInside, suffix-length, value_length}
 use Rattle.layout.specs.LaysWords.{holds_at, holds_inside, leaf_slots, pair_at_lem, slot_at}
 use Rattle.layout.specs.declared.Header.{Header}
 use Rattle.lists.specs.All.{all_at}
-use Rattle.lists.specs.Part.{part, part-add}
+use Rattle.lists.specs.Part.{part}
+use Rattle.lists.proofs.PartLaws.{part-add}
 use Rattle.model.specs.Answers.{Answer, accepted, refused}
 use Rattle.model.specs.Answers as model
 use Rattle.model.specs.Leaves.{Node, low_of, node, prefix_length}

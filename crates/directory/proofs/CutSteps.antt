@@ -14,7 +14,8 @@ use Rattle.layout.specs.AroundLaws.{LaysAround}
 use Rattle.layout.specs.Buffers.{suffix_at}
 use Rattle.layout.specs.DirectoryLaws.{cut_leaf, cut_owns_left, cut_owns_right}
 use Rattle.layout.specs.UsedLaws.{used_insert}
-use Rattle.lists.specs.Part.{put, length-put, length-part, part, put-cons, put_one}
+use Rattle.lists.specs.Part.{put, part}
+use Rattle.lists.proofs.PartLaws.{length-put, length-part, put-cons, put_one}
 use Rattle.model.specs.Leaves.{Node, node, with_pairs}
 use Rattle.order.specs.Bytes.{Bytes}
 use Rattle.words.specs.Laws.{offset_of_slot, suffix_of_slot, value_of_slot}

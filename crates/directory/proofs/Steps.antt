@@ -12,7 +12,8 @@ use Rattle.directory.specs.Used.{lent, used_from, used_to, word_at}
 use Rattle.layout.specs.DirectoryLaws.{take_over}
 use Rattle.layout.specs.RegionLaws.{Owns, owns_kept}
 use Rattle.layout.specs.UsedLaws.{used_remove}
-use Rattle.lists.specs.Part.{put, length-put, length-part, part, part-put_after, put-append, put_one}
+use Rattle.lists.specs.Part.{put, part}
+use Rattle.lists.proofs.PartLaws.{length-put, length-part, part-put_after, put-append, put_one}
 use Rattle.model.specs.Leaves.{Node}
 use Rattle.words.specs.Words.{directory_word, first_slot, word_count, word_leaf}
 

@@ -17,7 +17,7 @@ pub mod writes;
 
 // A refusal's number and the length that it also returns, or 0 and the call's own number.
 #[repr(C)]
-#[derive(Drop)]
+#[derive(Clone, Copy)]
 pub struct Told {
     pub refusal: usize,
     pub length: usize,
@@ -25,7 +25,7 @@ pub struct Told {
 
 // The same of a changing call, with the header as it then is.
 #[repr(C)]
-#[derive(Drop)]
+#[derive(Clone, Copy)]
 pub struct Reply {
     pub refusal: usize,
     pub length: usize,

@@ -9,7 +9,7 @@ use tree_get::{Contained, Found, View, contains_key, get, leaf_at};
 
 // Whether a value was found, 1 or 0, and where it lies in the arena. All but the refusal is 0 where there is none.
 #[repr(C)]
-#[derive(Drop)]
+#[derive(Clone, Copy)]
 pub struct Place {
     pub refusal: usize,
     pub found: usize,
@@ -20,7 +20,7 @@ pub struct Place {
 // Whether there is such a leaf, 1 or 0, where its low key and its upper key lie, its prefix length and its number of pairs. All but the
 // refusal is 0 where there is none, and so are the upper key's three fields where the leaf has none.
 #[repr(C)]
-#[derive(Drop)]
+#[derive(Clone, Copy)]
 pub struct Shown {
     pub refusal: usize,
     pub found: usize,
@@ -34,7 +34,7 @@ pub struct Shown {
 }
 
 // The upper key's three fields.
-#[derive(Drop)]
+#[derive(Clone, Copy)]
 struct UpperPart {
     has: usize,
     offset: usize,

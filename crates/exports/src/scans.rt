@@ -11,7 +11,7 @@ use tree_range::{Scan, first, first_in_range, get_gt};
 // The kinds of a range's bounds, 0 included, 1 excluded, 2 open, and how many bytes of its end were written. Refused, `length` is the one
 // that the refusal also returns, and the rest is 0.
 #[repr(C)]
-#[derive(Drop)]
+#[derive(Clone, Copy)]
 pub struct Span {
     pub refusal: usize,
     pub length: usize,
@@ -69,7 +69,7 @@ pub fn olybzhan_scan_prefix(prefix: &[u8], out: &mut [u8]) -> Span
 // A pair found: the length of its key, which is in the output, and where its value lies in the arena. Refused, `length` is the one that
 // the refusal also returns. Refused or at the end of the range, the rest is 0.
 #[repr(C)]
-#[derive(Drop)]
+#[derive(Clone, Copy)]
 pub struct Scanned {
     pub refusal: usize,
     pub length: usize,

@@ -12,7 +12,7 @@ use tree_remove::remove;
 // Whether there was an old value, 1 or 0, its length, and the header as it then is. The old value is at the output's front. Refused, `length`
 // is the one that the refusal also returns, and `found` is 0.
 #[repr(C)]
-#[derive(Drop)]
+#[derive(Clone, Copy)]
 pub struct OldReply {
     pub refusal: usize,
     pub length: usize,
@@ -22,7 +22,7 @@ pub struct OldReply {
 
 // The same without the header.
 #[repr(C)]
-#[derive(Drop)]
+#[derive(Clone, Copy)]
 pub struct OldPart {
     pub refusal: usize,
     pub length: usize,

@@ -1,15 +1,11 @@
 // The calls for C and Rust, under their C names: each is the function of that name of the crate exports.
 #![tactic(auto)]
 
-ghost use Rattle.changes.specs.Outcomes.{lent};
-ghost use Rattle.exports.specs.Replies.{ClearReply, InsertReply, RemoveReply, with_header, with_header_old};
-ghost use Rattle.exports.specs.Replies.{FirstReply, GtReply, PrefixReply, RangeReply, bound_read, bound_told, scan_told, span_told};
-ghost use Rattle.exports.specs.Replies.{changed_told, old_told, InsertReply, RemoveReply};
-ghost use Rattle.exports.specs.Replies.{contained_told, place_told, no_view, upper_told, with_upper, shown_told, ContainsReply, GetReply, LeafReply};
-ghost use Rattle.exports.specs.Replies.{refusal_told, change_told, length_told, reply_of, CreateReply, ClearReply, LenReply};
-ghost use Rattle.layout.specs.Lays.{W};
-ghost use Rattle.lists.specs.Exact.{Exact};
 ghost use Rattle.std.specs.Prelude.{◌≡◌};
+ghost use Rattle.lists.specs.Exact.{Exact};
+ghost use Rattle.layout.specs.Lays.{W};
+ghost use Rattle.changes.specs.Outcomes.{lent};
+ghost use Rattle.exports.specs.Replies.{ClearReply, ContainsReply, CreateReply, FirstReply, GetReply, GtReply, InsertReply, LeafReply, LenReply, PrefixReply, RangeReply, RemoveReply, with_header, with_header_old, with_upper};
 
 use exports::reads::{Place, Shown};
 use exports::scans::{Scanned, Span};

@@ -5,7 +5,8 @@ use Rattle.std.proofs.Common.{inl, inr, sym, ap, subst, ◌∙◌, eq-or-lt_of_l
 use Rattle.std.proofs.Math.Seq.{take-append-add, take-nil}
 use Rattle.lists.specs.All.{All}
 use Rattle.lists.specs.Exact.{exact_no, exact_yes}
-use Rattle.lists.specs.Part.{part, put, get_or-part, length-part, part-snoc, drop-put_all, length-put, take-put_all}
+use Rattle.lists.specs.Part.{part, put}
+use Rattle.lists.proofs.PartLaws.{get_or-part, length-part, part-snoc, drop-put_all, length-put, take-put_all}
 use Rattle.feed.specs.Feeds.{Ends, Gathers, Holds, Keeps}
 
 -- the loop of `line_end`

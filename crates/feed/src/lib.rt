@@ -5,7 +5,7 @@ ghost use Rattle.feed.specs.Feeds.{Ends, Gathers, Holds};
 use moves::copy_bytes;
 
 // How far a piece was taken, how many bytes of the line the buffer has, and whether the line ended there.
-#[derive(Drop)]
+#[derive(Clone, Copy)]
 pub struct Gathered {
     pub next: usize,
     pub held: usize,

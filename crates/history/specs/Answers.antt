@@ -12,17 +12,18 @@ use Rattle.history.specs.Stands.{Stands, answered, presumed, stands}
 use Rattle.layout.specs.Examples.{header}
 use Rattle.layout.specs.Places.{place_of}
 use Rattle.lists.specs.All.{All}
-use Rattle.lists.specs.Part.{drop-put_after, length-put, part-put, put, put-nil}
+use Rattle.lists.proofs.PartLaws.{drop-put_after, length-put, part-put, put-nil}
+use Rattle.lists.specs.Part.{put}
 use Rattle.model.specs.Answers.{Gives, accepted, answer_code, beyond, contains_answer, everything, get_answer, inverted, is_some, key_of, key_written, leaf_answer, len_answer, long_bound, long_key, long_value, meets_sizes, no_leaf, no_room, range_answer, range_found, refuse_if, short, size_of}
 use Rattle.model.specs.Good.{Bounds, Tiled, Within, limits}
 use Rattle.model.specs.Leaves.{Node, Under, pairs_of}
 use Rattle.model.specs.Limits.{key_limit, value_limit}
 use Rattle.model.specs.Map.{Pair, first_in, lookup}
 use Rattle.model.specs.MapSame.{pair_path}
-use Rattle.model.specs.PairLaws.{pairs_within, rising_pairs}
+use Rattle.model.proofs.PairLaws.{pairs_within, rising_pairs}
 use Rattle.model.specs.Prefix.{prefix_end, prefix_range}
 use Rattle.model.specs.Rules.{fresh, insert_rule, remove_rule}
-use Rattle.model.specs.ScanLaws.{first_lookup}
+use Rattle.model.proofs.ScanLaws.{first_lookup}
 use Rattle.model.specs.Walk as walk
 use Rattle.model.specs.declared.Range.{Range}
 use Rattle.model.specs.declared.Refusal.{Refusal}

@@ -18,20 +18,23 @@ use Rattle.layout.specs.LaysUnique.{holds_unique}
 use Rattle.model.specs.Answers.{Answer, accepted, insert_answer, long_key, long_value, refused, short}
 use Rattle.model.specs.Answers as model
 use Rattle.model.specs.Charge.{charge, stored}
-use Rattle.model.specs.FilledLaws.{leaves_pairs}
+use Rattle.model.proofs.FilledLaws.{leaves_pairs}
 use Rattle.model.specs.Good.{Filled, Tiles, limits}
 use Rattle.model.specs.LeafViews.{fails, holds, truth}
 use Rattle.model.specs.Leaves.{Node, owned, pairs_of}
 use Rattle.model.specs.LimitLaws.{fanout_three}
 use Rattle.model.specs.Limits.{key_limit, value_limit}
 use Rattle.model.specs.Map.{Pair, Rising, lookup, put}
-use Rattle.model.specs.OwnerLaws.{SpansAt, no_other_owner, one_owner, tiles_first}
-use Rattle.model.specs.PairLaws.{pairs_within, rising_pairs}
+use Rattle.model.specs.SpansAt.{SpansAt}
+use Rattle.model.proofs.OwnerLaws.{no_other_owner, one_owner, tiles_first}
+use Rattle.model.proofs.PairLaws.{pairs_within, rising_pairs}
 use Rattle.model.specs.Rules.{fresh, insert_rule, lowest_free, remove_rule}
-use Rattle.model.specs.SizeLaws.{remove_count}
-use Rattle.model.specs.Sizing.{bounds, reached_tiles, sizing, sizing_answer}
-use Rattle.model.specs.SplitLaws.{SplitOf, insert_no_split, insert_split}
-use Rattle.model.specs.StoredLaws.{stored_charge}
+use Rattle.model.proofs.SizeLaws.{remove_count}
+use Rattle.model.specs.Reached.{bounds}
+use Rattle.model.proofs.Sizing.{reached_tiles, sizing, sizing_answer}
+use Rattle.model.specs.SplitOf.{SplitOf}
+use Rattle.model.proofs.SplitLaws.{insert_no_split, insert_split}
+use Rattle.model.proofs.StoredLaws.{stored_charge}
 use Rattle.model.specs.declared.Refusal.{Refusal}
 use Rattle.model.specs.declared.Refusal.TheVariants.{NoLeaf, NoRoom}
 use Rattle.order.specs.Bytes.{Bytes}
@@ -143,15 +146,17 @@ module _ {s : State} (h : History s) where
       few_now : length (put k v (pairs_of ns)) ≤ P
       few_now = rw (stands h).pairs_are few
 
-      sized_by : (b : Answer model.Changed) → insert_answer F (length s.dir) (length s.arena) k v (length out) ns ≡ b → ChangedBy b s.header (lending s out) r after
-          → (r.old ≡ Refused NoLeaf → ⊥) × (r.old ≡ Refused NoRoom → ⊥)
-      sized_by (refused x) e c =
-          let q = sizing_answer F kmost vmost P (length s.dir) (length s.arena) three pool arena ns ((stands h).reached kmost vmost a) k v hk hv few_now (length out) x e in
-          ((λ f. q.0 (refused_is (sym c.answer.answer_is ∙ f))), λ f. q.1 (refused_is (sym c.answer.answer_is ∙ f)))
-      sized_by (accepted c) e b = (told_not_refused c.old b.answer.answer_is, told_not_refused c.old b.answer.answer_is)
+      -- a refusal that the answer is not, the call does not give
+      not_given : {x : Refusal} (b : Answer model.Changed) → ((y : Refusal) → b ≡ refused y → y ≡ x → ⊥) → ChangedBy b s.header (lending s out) r after → r.old ≡ Refused x → ⊥
+      not_given (refused y) n c f = n y refl (refused_is (sym c.answer.answer_is ∙ f))
+      not_given (accepted c) n b f = told_not_refused c.old b.answer.answer_is f
 
       pub sized : (r.old ≡ Refused NoLeaf → ⊥) × (r.old ≡ Refused NoRoom → ⊥)
-      sized = sized_by (insert_answer F (length s.dir) (length s.arena) k v (length out) ns) refl (answered (stands h) (InsertBy s.header k v (lending s out) r after) o)
+      sized =
+          let b = insert_answer F (length s.dir) (length s.arena) k v (length out) ns in
+          let told : ChangedBy b s.header (lending s out) r after = answered (stands h) (InsertBy s.header k v (lending s out) r after) o in
+          let q = sizing_answer F kmost vmost P (length s.dir) (length s.arena) three pool arena ns ((stands h).reached kmost vmost a) k v hk hv few_now (length out) in
+          (not_given b (λ x e. (q x e).0) told, not_given b (λ x e. (q x e).1) told)
 
       -- so with K and V within the limits and an output that old values fit, it is not refused at all
 

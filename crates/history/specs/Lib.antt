@@ -3,5 +3,3 @@ pub mod Says
 pub mod Stands
 pub mod Answers
 pub mod Demand3
-pub mod Kept
-pub mod Example

@@ -17,10 +17,10 @@ use Rattle.model.specs.Answers as model
 use Rattle.model.specs.Leaves.{Node, pairs_of}
 use Rattle.model.specs.Map.{Pair}
 use Rattle.model.specs.Map as map
-use Rattle.model.specs.PairLaws.{insert_pairs, remove_pairs}
+use Rattle.model.proofs.PairLaws.{insert_pairs, remove_pairs}
 use Rattle.model.specs.PassedLaws.{passed_if, same_accepted}
 use Rattle.model.specs.Rules.{fresh, insert_rule, remove_rule}
-use Rattle.model.specs.Sizing.{Reached, created, inserted, removed}
+use Rattle.model.specs.Reached.{Reached, created, inserted, removed}
 use Rattle.model.specs.declared.Refusal.TheVariants.{Shape}
 use Rattle.order.specs.Bytes.{Bytes}
 use Rattle.tree_create.specs.Coincide.{freshened_w}

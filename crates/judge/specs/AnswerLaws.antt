@@ -12,9 +12,10 @@ use Rattle.model.specs.LeafViews.{full, new_low, on, settled, side, slack, stay}
 use Rattle.model.specs.Leaves.{Node, owned, owner, with_pairs}
 use Rattle.model.specs.Map.{Pair, lookup, put}
 use Rattle.model.specs.MapParts.{cost, length-put}
-use Rattle.model.specs.OwnerLaws.{tiles_first}
+use Rattle.model.proofs.OwnerLaws.{tiles_first}
 use Rattle.model.specs.Rules.{cut_key, insert_rule, split_offset}
-use Rattle.model.specs.SizeLaws.{insert_charge, insert_cut, remove-charge}
+use Rattle.model.proofs.SizeLaws.{insert_charge, remove-charge}
+use Rattle.model.specs.LeafCuts.{insert_cut}
 use Rattle.order.specs.Bytes.{Bytes}
 use Rattle.route.specs.RouteLaws.{owner_pairs, routed}
 use Rattle.route.specs.Routes.{leaf_at, upper_of}

@@ -17,7 +17,7 @@ use Rattle.model.specs.Place.Place.{gap}
 use Rattle.model.specs.Rules.{cut_key, first_key, last_key, split_offset}
 use Rattle.order.specs.Bytes.{Bytes, common}
 use Rattle.order.specs.CommonLaws.{common_comm}
-use Rattle.order.specs.SeparatorLaws.{length-separator}
+use Rattle.order.proofs.SeparatorLaws.{length-separator}
 use Rattle.judge.specs.Judges.{cut_common, key_in, offset_by}
 
 -- a list with one element put in before place i

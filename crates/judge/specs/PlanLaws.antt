@@ -14,7 +14,7 @@ use Rattle.model.specs.LimitLaws.{fanout_three, key_limit_fits}
 use Rattle.model.specs.Limits.{key_limit}
 use Rattle.model.specs.Map.{Pair, pair, put}
 use Rattle.model.specs.MapParts.{length-put}
-use Rattle.model.specs.OwnerLaws.{tiled_at}
+use Rattle.model.proofs.OwnerLaws.{tiled_at}
 use Rattle.model.specs.Place.{gap_lookup}
 use Rattle.model.specs.Rules.{cut_key, split_offset}
 use Rattle.order.specs.Bytes.{Bytes}

@@ -10,10 +10,11 @@ use Rattle.leaf.specs.KeyLaws.{key_length}
 use Rattle.leaf.specs.declared.Upper.{Upper}
 use Rattle.leaf.specs.declared.Upper.TheVariants.{At, Nothing}
 use Rattle.lists.specs.All.{all_at}
-use Rattle.lists.specs.Part.{length-part, part}
+use Rattle.lists.proofs.PartLaws.{length-part}
+use Rattle.lists.specs.Part.{part}
 use Rattle.model.specs.Leaves.{Node, Spans}
 use Rattle.model.specs.Map.{Pair, pair}
-use Rattle.model.specs.OwnerLaws.{tiled_at}
+use Rattle.model.proofs.OwnerLaws.{tiled_at}
 use Rattle.model.specs.PrefixLaws.{span_prefix}
 use Rattle.model.specs.Rules.{split_offset}
 use Rattle.model.specs.declared.Refusal.TheVariants.{NoRoom, ShortOutput}

@@ -18,13 +18,14 @@ use Rattle.model.specs.LeafViews.{full, settled, slack}
 use Rattle.model.specs.Leaves.{Node, at_owner, owner, pairs_of, with_pairs}
 use Rattle.model.specs.Map.{Pair, Rising, lookup, put}
 use Rattle.model.specs.Place.{Place, at, gap, next, place}
-use Rattle.model.specs.RuleEdits.{insert_edit}
+use Rattle.model.proofs.RuleEdits.{insert_edit}
 use Rattle.model.specs.Rules.{cut_key, first_key, halves, insert_here, insert_rule, lowest_free, split_if_full, split_offset}
-use Rattle.model.specs.SplitInsert.{cut_stored, put_here, split_then_insert}
+use Rattle.model.specs.StoredCut.{cut_stored, put_here}
+use Rattle.model.proofs.SplitInsert.{split_then_insert}
 use Rattle.model.specs.declared.Refusal.TheVariants.{LongKey, LongValue, NoLeaf, NoRoom, ShortOutput}
 use Rattle.order.specs.Bytes.{Bytes, separator}
 use Rattle.order.specs.OrderLaws.{after, before, cmp_after, cmp_before, cmp_equal, equal, tri}
-use Rattle.order.specs.SeparatorLaws.{length-separator}
+use Rattle.order.proofs.SeparatorLaws.{length-separator}
 use Rattle.route.specs.Routes.{leaf_at, upper_of}
 use Rattle.judge.specs.CutsAt.{first_at, key_after, key_before, key_here}
 use Rattle.judge.specs.Judges.{Accepts, cut_of, key_in, offset_at, slot_of}

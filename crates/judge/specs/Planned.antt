@@ -12,10 +12,11 @@ use Rattle.model.specs.Leaves.{Node, at_owner, owner}
 use Rattle.model.specs.LimitLaws.{fanout_three}
 use Rattle.model.specs.Map.{Pair, Rising, put}
 use Rattle.model.specs.MapLaws.{rising_put}
-use Rattle.model.specs.OwnerLaws.{tiled_at}
+use Rattle.model.proofs.OwnerLaws.{tiled_at}
 use Rattle.model.specs.Place.{gap, gap_lookup, place}
 use Rattle.model.specs.Rules.{cut_key, insert_rule, lowest_free, split_offset}
-use Rattle.model.specs.SplitInsert.{cut_stored, put_here, split_left, split_right}
+use Rattle.model.specs.StoredCut.{cut_stored, put_here}
+use Rattle.model.proofs.SplitInsert.{split_left, split_right}
 use Rattle.order.specs.Bytes.{Bytes, ◌≺◌, ◌≼◌}
 use Rattle.route.specs.RouteLaws.{owner_pairs, place_in, routed}
 use Rattle.route.specs.Routes.{leaf_at, upper_of}

@@ -27,13 +27,13 @@ pub struct Plan {
 }
 
 // Whether the leaf stays below F pairs with the new one, which then goes before the spot, or is full.
-#[derive(Drop)]
+#[derive(Clone, Copy)]
 pub enum Fit {
     Slack(Spot),
     Full(Plan),
 }
 
-#[derive(Drop)]
+#[derive(Clone, Copy)]
 pub enum Judged {
     Refuse(Refusal),
     Replace(Spot),

@@ -14,7 +14,7 @@ use Rattle.model.specs.Answers as model
 use Rattle.model.specs.Charge.{charge}
 use Rattle.model.specs.Leaves.{Node, pairs_of}
 use Rattle.model.specs.Map.{lookup}
-use Rattle.model.specs.PairLaws.{lookup-owned, remove_absent}
+use Rattle.model.proofs.PairLaws.{lookup-owned, remove_absent}
 use Rattle.model.specs.declared.Refusal.{Refusal}
 use Rattle.model.specs.declared.Refusal.TheVariants.{Damaged}
 use Rattle.order.specs.Bytes.{Bytes}

@@ -9,8 +9,10 @@ use Rattle.layout.specs.Buffers.{Buffers, low_word, slot_words}
 use Rattle.layout.specs.FrameLaws.{all_words, rewritten, write_gap, WordsIn}
 use Rattle.layout.specs.Lays.{LaysAt, LaysEach, LaysLeaf}
 use Rattle.layout.specs.LaysLaws.{each_prefixes, each_append, each_at, each_cut, each_split, each_words}
-use Rattle.layout.specs.Order.{extents, Extent, InOrder, word_extent, leaf_words, words_of}
-use Rattle.layout.specs.OrderLaws.{order_before, end_of, order_left, order_right, order_widen}
+use Rattle.layout.specs.Order.{extents, word_extent, leaf_words, words_of}
+use Rattle.lists.specs.Extents.{Extent, InOrder}
+use Rattle.lists.proofs.ExtentLaws.{order_before, order_left, order_right, order_widen}
+use Rattle.lists.specs.Extents.{end_of}
 use Rattle.lists.specs.All.{all_left, all_right, All}
 use Rattle.lists.specs.Part.{put}
 use Rattle.model.specs.Leaves.{Node}

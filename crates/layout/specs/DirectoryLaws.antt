@@ -10,10 +10,11 @@ use Rattle.layout.specs.EditLaws.{edit_all, words_long, map-drop, map-take}
 use Rattle.layout.specs.FrameLaws.{Elsewhere, rewritten, same_words, SameLeaf, SameWords, WordsIn, all_of, first_of, same_each, same_leaves}
 use Rattle.layout.specs.Lays.{LaysLeaf}
 use Rattle.layout.specs.Order.{leaf_words, word_extent, words_of}
-use Rattle.layout.specs.OrderLaws.{order_top, order_remove, order_insert}
+use Rattle.lists.proofs.ExtentLaws.{order_top, order_remove, order_insert}
 use Rattle.layout.specs.RegionLaws.{owns_kept, Owns, low_words, low_written, region_ahead, region_behind, region_words, words_from}
 use Rattle.lists.specs.All.{all_append, all_both, all_left, all_mono, all_right, All}
-use Rattle.lists.specs.Part.{part-put, length-part, part, put, length-put}
+use Rattle.lists.proofs.PartLaws.{part-put, length-part, length-put}
+use Rattle.lists.specs.Part.{part, put}
 use Rattle.model.specs.Leaves.{Node, node, with_pairs}
 use Rattle.order.specs.Bytes.{Bytes}
 use Rattle.words.specs.Words.{low_key_slot, word_count, word_leaf, word_offset, word_suffix, word_value}

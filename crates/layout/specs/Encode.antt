@@ -10,9 +10,11 @@ use Rattle.std.proofs.Math.ListN.{get_or, length}
 use Rattle.std.proofs.Math.Seq.{get_or_at, drop-append_seam, take-length, take-append_seam}
 use Rattle.layout.specs.Buffers.{low_at, Buffers, low_word, slot_words, pair_at, suffix_at, value_at}
 use Rattle.layout.specs.Lays.{LaysLeaf}
-use Rattle.layout.specs.Order.{leaf_words, Extent, InOrder, word_extent}
+use Rattle.layout.specs.Order.{leaf_words, word_extent}
+use Rattle.lists.specs.Extents.{Extent, InOrder}
 use Rattle.lists.specs.All.{All}
-use Rattle.lists.specs.Part.{get_or-part, part-part, part}
+use Rattle.lists.proofs.PartLaws.{get_or-part, part-part}
+use Rattle.lists.specs.Part.{part}
 use Rattle.model.specs.Leaves.{Node}
 use Rattle.model.specs.Map.{Pair, pair}
 use Rattle.order.specs.Bytes.{Bytes}

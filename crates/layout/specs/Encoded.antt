@@ -13,9 +13,11 @@ use Rattle.layout.specs.Buffers.{Buffers}
 use Rattle.layout.specs.Encode.{Lies, Storable, Written, directory_of, leaf_laid, leaf_ordered, leaf_bytes, lies_left, lies_right, region, region_long}
 use Rattle.layout.specs.Lays.{LaysEach, prefixes_of}
 use Rattle.layout.specs.LaysWords.{region_in}
-use Rattle.layout.specs.Order.{Extent, InOrder, extents, leaf_words, word_extent, words_of}
+use Rattle.lists.specs.Extents.{Extent, InOrder}
+use Rattle.layout.specs.Order.{extents, leaf_words, word_extent, words_of}
 use Rattle.lists.specs.All.{All, all_both, all_mono}
-use Rattle.lists.specs.Part.{length-put, put, part, part-put, part-put_after, part-put_before}
+use Rattle.lists.proofs.PartLaws.{length-put, part-put, part-put_after, part-put_before}
+use Rattle.lists.specs.Part.{put, part}
 use Rattle.model.specs.Good.{Distinct, GoodLeaf, Tiled, Within, limits}
 use Rattle.model.specs.Leaves.{Node, Spans, low_of, prefix_length}
 use Rattle.model.specs.LimitLaws.{key_limit_fits, value_limit_fits}

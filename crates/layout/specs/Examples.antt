@@ -12,13 +12,13 @@ use Rattle.layout.specs.LaysUnique.{lays_unique}
 use Rattle.layout.specs.LaysWords.{region_in}
 use Rattle.layout.specs.declared.Header.{Header}
 use Rattle.model.specs.Charge.{charge, weight}
-use Rattle.model.specs.FitsLaws.{fresh_fits}
+use Rattle.model.proofs.FitsLaws.{fresh_fits}
 use Rattle.model.specs.Good.{Good, limits}
 use Rattle.model.specs.Leaves.{Node, low_of, pairs_of, node}
 use Rattle.model.specs.LimitLaws.{fanout_three, pool_one}
 use Rattle.model.specs.Limits.{Sizes}
 use Rattle.model.specs.Rules.{fresh}
-use Rattle.model.specs.TileLaws.{fresh_tiles}
+use Rattle.model.proofs.TileLaws.{fresh_tiles}
 use Rattle.words.specs.Words.{low_key_slot}
 
 abbrev pub header : (fanout leaves pairs charge : ℕ) → Header

@@ -19,8 +19,8 @@ use Rattle.model.specs.Good.{Fits, Tiled, Good, limits}
 use Rattle.model.specs.Leaves.{Node, pairs_of}
 use Rattle.model.specs.LimitLaws.{arena_limit_fits, fanout_limit_fits, pool_limit_fits}
 use Rattle.model.specs.Limits.{Sizes}
-use Rattle.model.specs.PairLaws.{pairs_most}
-use Rattle.model.specs.StoredLaws.{stored_charge}
+use Rattle.model.proofs.PairLaws.{pairs_most}
+use Rattle.model.proofs.StoredLaws.{stored_charge}
 use Rattle.words.specs.Words.{word_offset, word_suffix, word_value}
 
 abbrev pub header_of : (fanout : ℕ) → List Node → Header

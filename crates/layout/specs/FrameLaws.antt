@@ -11,10 +11,12 @@ use Rattle.std.proofs.Math.Seq.{take-take}
 use Rattle.layout.specs.Buffers.{Buffers, low_at, low_word, pair_at, slot_words, suffix_at, value_at}
 use Rattle.layout.specs.Lays.{LaysAt, LaysEach, LaysLeaf}
 use Rattle.layout.specs.LaysLaws.{each_induct}
-use Rattle.layout.specs.Order.{Extent, InOrder, leaf_words, word_extent, words_of}
-use Rattle.layout.specs.OrderLaws.{order_top, gap_frame}
+use Rattle.lists.specs.Extents.{Extent, InOrder}
+use Rattle.layout.specs.Order.{leaf_words, word_extent, words_of}
+use Rattle.lists.proofs.ExtentLaws.{order_top, gap_frame}
 use Rattle.lists.specs.All.{All, all_left, all_right}
-use Rattle.lists.specs.Part.{get_or-put_after, get_or-put_before, part, part-part, part-put_after, part-put_before, put, length-put}
+use Rattle.lists.proofs.PartLaws.{get_or-put_after, get_or-put_before, part-part, part-put_after, part-put_before, length-put}
+use Rattle.lists.specs.Part.{part, put}
 use Rattle.model.specs.LeafViews.{fails, holds, truth}
 use Rattle.model.specs.Leaves.{Node}
 use Rattle.order.specs.Bytes.{Bytes}

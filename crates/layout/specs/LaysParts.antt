@@ -7,10 +7,12 @@ use Rattle.std.proofs.lemmas.List.{map-append}
 use Rattle.layout.specs.Buffers.{Buffers, low_at, low_word, pair_at, slot_words, suffix_at, value_at, value_place}
 use Rattle.layout.specs.Lays.{LaysEach, prefixes_of, LaysAt, LaysLeaf}
 use Rattle.layout.specs.LaysLaws.{each_induct}
-use Rattle.layout.specs.Order.{Extent, extents, leaf_words, word_extent, words_of}
-use Rattle.layout.specs.OrderLaws.{order_total, Apart, order_apart, order_before, total}
+use Rattle.lists.specs.Extents.{Extent}
+use Rattle.layout.specs.Order.{extents, leaf_words, word_extent, words_of}
+use Rattle.lists.proofs.ExtentLaws.{order_total, order_apart, order_before}
+use Rattle.lists.specs.Extents.{Apart, total}
 use Rattle.lists.specs.All.{All, all_left, all_right}
-use Rattle.lists.specs.Part.{length-part}
+use Rattle.lists.proofs.PartLaws.{length-part}
 use Rattle.model.specs.Charge.{stored, stored_pairs}
 use Rattle.model.specs.Leaves.{low_of, Node}
 use Rattle.model.specs.PrefixLaws.{prefix_low}

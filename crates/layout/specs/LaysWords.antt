@@ -12,7 +12,7 @@ use Rattle.layout.specs.Order.{leaf_words}
 use Rattle.layout.specs.declared.Header.{Header}
 use Rattle.lists.specs.All.{All, all_at}
 use Rattle.lists.specs.Map.{get_or-map_lt}
-use Rattle.lists.specs.Part.{get_or-part}
+use Rattle.lists.proofs.PartLaws.{get_or-part}
 use Rattle.model.specs.Good.{Bounds, Tiled, limits}
 use Rattle.model.specs.Leaves.{Node, low_of, prefix_length}
 use Rattle.model.specs.Map.{Pair}

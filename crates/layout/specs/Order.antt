@@ -1,20 +1,8 @@
--- Rule G: the parts of a leaf list lie in the arena in order, gaps anywhere. (docs/LAYOUT.md)
-use Rattle.std.specs.Prelude.{ℕ, ◌+◌, ◌≤◌, List, [], ◌∷◌, ◌++◌, map}
+-- Rule G: the parts of a leaf list lie in the arena in order, gaps anywhere (docs/LAYOUT.md): `InOrder`, of these extents.
+use Rattle.std.specs.Prelude.{ℕ, ◌+◌, List, [], ◌∷◌, ◌++◌, map}
 use Rattle.words.specs.Words.{word_offset, word_suffix, word_value}
 use Rattle.layout.specs.Buffers.{Buffers, slot_words, low_word}
-
--- a part of the arena: where it starts, and how many bytes it has
-pub record Extent : Type 0 where
-  pub at : ℕ
-  pub size : ℕ
-
-abbrev pub extent : ℕ → ℕ → Extent
-extent at size = record { at = at; size = size }
-
--- each part starts at or after the end of the one before it, the first at or after a, and the last ends at or before top
-abbrev pub InOrder : ℕ → List Extent → ℕ → Type 0
-InOrder a [] top = a ≤ top
-InOrder a (e ∷ es) top = (a ≤ e.at) × InOrder (e.at + e.size) es top
+use Rattle.lists.specs.Extents.{Extent, extent}
 
 -- the part of a slot word (a low-key word has no value)
 abbrev pub word_extent : ℕ → Extent

@@ -15,12 +15,14 @@ use Rattle.layout.specs.PlacesLaws.{holds_word}
 use Rattle.layout.specs.Presumed.{Presumed}
 use Rattle.layout.specs.declared.Header.{Header}
 use Rattle.lists.specs.All.{all_at}
-use Rattle.lists.specs.Part.{length-part, part}
+use Rattle.lists.proofs.PartLaws.{length-part}
+use Rattle.lists.specs.Part.{part}
 use Rattle.model.specs.Good.{GoodLeaf, limits}
 use Rattle.model.specs.Leaves.{Node, Spans, low_of, node, prefix_length}
 use Rattle.model.specs.LimitLaws.{arena_limit_fits}
 use Rattle.model.specs.Map.{Pair, pair}
-use Rattle.model.specs.OwnerLaws.{SpansAt, no_other_owner, tiled_at}
+use Rattle.model.specs.SpansAt.{SpansAt}
+use Rattle.model.proofs.OwnerLaws.{no_other_owner, tiled_at}
 use Rattle.model.specs.Place.{place_of_lem}
 use Rattle.model.specs.PrefixLaws.{prefix_low}
 use Rattle.order.specs.Bytes.{Bytes}

@@ -14,8 +14,8 @@ use Rattle.model.specs.Good.{Bounds, Tiled, limits}
 use Rattle.model.specs.LeafViews.{on, side, stay}
 use Rattle.model.specs.Leaves.{Node, node, owner, pairs_of}
 use Rattle.model.specs.Map.{Below, Pair}
-use Rattle.model.specs.OwnerLaws.{owner-within, tiles_first}
-use Rattle.model.specs.PairLaws.{below_next}
+use Rattle.model.proofs.OwnerLaws.{owner-within, tiles_first}
+use Rattle.model.proofs.PairLaws.{below_next}
 use Rattle.model.specs.Place.{Place, at, gap, next, place}
 use Rattle.order.specs.Bytes.{Bytes}
 use Rattle.order.specs.OrderLaws.{after, before, cmp_after, cmp_before, cmp_equal, equal, tri}

@@ -10,7 +10,8 @@ use Rattle.layout.specs.FrameLaws.{Elsewhere, SameWords, first_of, region_frame,
 use Rattle.layout.specs.Lays.{LaysAt, LaysEach}
 use Rattle.layout.specs.LaysLaws.{each_induct}
 use Rattle.lists.specs.All.{all_at, All, all_append, all_left, all_mono, all_right}
-use Rattle.lists.specs.Part.{get_or-put_after, get_or-put_in, part, part-add, part-put, part-put_after, part-put_before, take-drop, put}
+use Rattle.lists.proofs.PartLaws.{get_or-put_after, get_or-put_in, part-add, part-put, part-put_after, part-put_before, take-drop}
+use Rattle.lists.specs.Part.{part, put}
 use Rattle.model.specs.Good.{Distinct}
 use Rattle.model.specs.Leaves.{Node}
 use Rattle.words.specs.Words.{first_slot, low_key_slot, word_count, word_leaf}

@@ -12,7 +12,8 @@ use Rattle.layout.specs.FrameLaws.{WordsIn, first_of, rewritten}
 use Rattle.layout.specs.Order.{words_of}
 use Rattle.layout.specs.RegionLaws.{Owns}
 use Rattle.lists.specs.All.{all_mono, All}
-use Rattle.lists.specs.Part.{length-part, part, take-drop, put}
+use Rattle.lists.proofs.PartLaws.{length-part, take-drop}
+use Rattle.lists.specs.Part.{part, put}
 use Rattle.model.specs.Leaves.{Node}
 use Rattle.order.specs.Bytes.{Bytes}
 use Rattle.words.specs.Words.{word_count, word_offset, word_suffix, word_value}

@@ -9,11 +9,12 @@ use Rattle.layout.specs.Buffers.{suffix_at, low_at, pair_at, Buffers, low_word, 
 use Rattle.layout.specs.EditLaws.{edit_leaf, pair_here, words_long}
 use Rattle.layout.specs.FrameLaws.{SameBytes, bytes_frame, moved_suffix, same_leaves, same_pairs, moved_pair, WordsIn, first_of, rewritten}
 use Rattle.layout.specs.Order.{extents, word_extent, words_of}
-use Rattle.layout.specs.OrderLaws.{order_insert, order_top}
+use Rattle.lists.proofs.ExtentLaws.{order_insert, order_top}
 use Rattle.layout.specs.RegionLaws.{Owns, low_words, low_written, region_ahead, region_behind}
 use Rattle.layout.specs.SlotLaws.{replace_written}
 use Rattle.lists.specs.All.{All, all_left, all_right}
-use Rattle.lists.specs.Part.{length-part, part-put, part, put, length-put}
+use Rattle.lists.proofs.PartLaws.{length-part, part-put, length-put}
+use Rattle.lists.specs.Part.{part, put}
 use Rattle.model.specs.Leaves.{Node}
 use Rattle.model.specs.Map.{Pair}
 use Rattle.words.specs.Words.{low_key_slot, word_count, word_leaf, word_offset, word_suffix, word_value}

@@ -9,10 +9,11 @@ use Rattle.layout.specs.Buffers.{suffix_at, value_at, value_place, Buffers, pair
 use Rattle.layout.specs.EditLaws.{pair_here, edit_tail, map-drop, words_long}
 use Rattle.layout.specs.FrameLaws.{bytes_frame, same_pairs, SameBytes, WordsIn, all_of, first_of, rewritten}
 use Rattle.layout.specs.Order.{word_extent, words_of}
-use Rattle.layout.specs.OrderLaws.{order_top, order_insert, order_remove}
+use Rattle.lists.proofs.ExtentLaws.{order_top, order_insert, order_remove}
 use Rattle.layout.specs.RegionLaws.{Owns, region_words, words_from}
 use Rattle.lists.specs.All.{all_left, all_right, All}
-use Rattle.lists.specs.Part.{part-part, part-put, part-put_before, length-part, part, put, length-put}
+use Rattle.lists.proofs.PartLaws.{part-part, part-put, part-put_before, length-part, length-put}
+use Rattle.lists.specs.Part.{part, put}
 use Rattle.model.specs.Leaves.{Node, with_pairs}
 use Rattle.model.specs.Map.{Pair, pair}
 use Rattle.order.specs.Bytes.{Bytes}

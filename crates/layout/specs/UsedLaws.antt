@@ -3,7 +3,8 @@
 use Rattle.std.specs.Prelude.{◌<◌, suc, ℕ, ◌+◌, ◌≤◌, List, ◌++◌, ◌∷◌, ◌≡◌, drop, length, take}
 use Rattle.std.proofs.Common.{◌∙◌, ap, add-one, arith, length-append, length-drop, length-take, take-take}
 use Rattle.std.proofs.Math.Numerals.{add-two}
-use Rattle.lists.specs.Part.{length-part, part, take-drop, take-put_all, put}
+use Rattle.lists.proofs.PartLaws.{length-part, take-drop, take-put_all}
+use Rattle.lists.specs.Part.{part, put}
 use Rattle.model.specs.Leaves.{Node}
 
 -- the first m words after a write of s at j

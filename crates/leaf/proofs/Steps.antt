@@ -8,7 +8,8 @@ use native.Mathlib.Omega.{arith}
 use lib.ListN.{get_or-map, drop, get_or, length, length-map, take}
 use lib.Seq.{take_all, take-suc}
 use Rattle.lists.specs.All.{All, all_append, all_at}
-use Rattle.lists.specs.Part.{get_or-part, length-part, part}
+use Rattle.lists.proofs.PartLaws.{get_or-part, length-part}
+use Rattle.lists.specs.Part.{part}
 use Rattle.order.specs.Bytes.{Bytes}
 use Rattle.order.specs.Compared.{Compared, compared_equal, compared_greater, compared_less}
 use Rattle.order.specs.declared.Ordering.{Ordering}

@@ -12,7 +12,7 @@ use words::{LeafNo, LowKey};
 pub mod search;
 
 // A leaf by value: its number in the pool, its fanout, how many pairs it has, and its prefix length.
-#[derive(Drop)]
+#[derive(Clone, Copy)]
 pub struct Leaf {
     pub number: LeafNo,
     pub fanout: usize,
@@ -86,7 +86,7 @@ pub fn prefix_length(arena: &[u8], low: LowKey, upper: Upper) -> usize
 }
 
 // Where a key stands in a leaf, counted in slots from the leaf's first: at a pair, or in the gap before one.
-#[derive(Drop)]
+#[derive(Clone, Copy)]
 pub enum Find {
     At(usize),
     Gap(usize),

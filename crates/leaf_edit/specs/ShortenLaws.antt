@@ -8,7 +8,7 @@ use Rattle.leaf.specs.declared.Upper.{Upper}
 use Rattle.leaf.specs.declared.Upper.TheVariants.{Nothing}
 use Rattle.leaf_edit.specs.Shorten.{CanShorten, Halved, ShortenedKeys}
 use Rattle.lists.specs.All.{All, all_mono}
-use Rattle.lists.specs.Part.{put-part}
+use Rattle.lists.proofs.PartLaws.{put-part}
 use Rattle.model.specs.Leaves.{prefix_length}
 use Rattle.model.specs.PrefixLaws.{prefix_low, span_prefix}
 use Rattle.slots.specs.Around.{Around, over}

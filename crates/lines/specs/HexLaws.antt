@@ -4,7 +4,8 @@ use Rattle.std.specs.Prelude.{ℕ, zero, suc, ◌+◌, ◌-◌, ◌*◌, ◌/◌
 use Rattle.std.proofs.Common.{sym, ap, ◌∙◌, arith, lt-ltb, le-ltb}
 use Rattle.lists.specs.All.{all_at}
 use Rattle.lists.specs.Exact.{Exact, exact_eqb, exact_iff}
-use Rattle.lists.specs.Fill.{Filling, fill_done, fill_step}
+use Rattle.lists.specs.Fill.{Filling}
+use Rattle.lists.proofs.FillLaws.{fill_done, fill_step}
 use Rattle.order.specs.Bytes.{Bytes}
 use Rattle.order.specs.OrderLaws.{heads}
 use Rattle.order.specs.OrderLaws.Heads.{lower, level, upper}

@@ -2,7 +2,8 @@
 -- Assumes nothing.
 use Rattle.std.specs.Prelude.{ℕ, ◌+◌, ◌-◌, ◌/◌, ◌≤◌, ◌<◌, ◌∷◌, ◌≡◌, refl, drop, get_or, length, take}
 use Rattle.std.proofs.Common.{sym, ap, subst, ◌∙◌, arith, length-append, length-drop, take_all}
-use Rattle.lists.specs.Part.{drop-put_after, length-put, part-put, put}
+use Rattle.lists.proofs.PartLaws.{drop-put_after, length-put, part-put}
+use Rattle.lists.specs.Part.{put}
 use Rattle.order.specs.Bytes.{Bytes}
 use Rattle.lines.specs.CutLaws.{Sides, cut_join, cut_whole, no_side, sides}
 use Rattle.lines.specs.Grammar.{AllBytes, Command, Front, Number, Parsed, Says, ◌␣◌, bytes_text, del_word, get_word, leaves_word, new_word, next_word, number_text, put_word, written}

@@ -14,7 +14,7 @@ pub struct Sizes {
 }
 
 // What a line says. The numbers of a key and a value are their lengths in the lent buffers.
-#[derive(Drop)]
+#[derive(Clone, Copy)]
 pub enum Line {
     New(Sizes),
     Put(usize, usize),
@@ -25,7 +25,7 @@ pub enum Line {
     Bad,
 }
 
-#[derive(Drop)]
+#[derive(Clone, Copy)]
 enum Decimal {
     Is(usize),
     Not,

@@ -1,6 +1,6 @@
 pub mod All
 pub mod Part
 pub mod Fill
-pub mod Shift
 pub mod Map
 pub mod Exact
+pub mod Extents

@@ -10,7 +10,8 @@ use Rattle.layout.specs.Buffers.{Buffers, slot_words}
 use Rattle.layout.specs.Lays.{LaysAt, prefixes_of}
 use Rattle.layout.specs.LaysWords.{leaf_slots}
 use Rattle.layout.specs.Order.{leaf_words, word_extent, words_of}
-use Rattle.layout.specs.OrderLaws.{end_of, order_left, order_right}
+use Rattle.lists.specs.Extents.{end_of}
+use Rattle.lists.proofs.ExtentLaws.{order_left, order_right}
 use Rattle.layout.specs.Presumed.{Presumed}
 use Rattle.layout.specs.declared.Header.{Header}
 use Rattle.model.specs.Leaves.{Node, node}

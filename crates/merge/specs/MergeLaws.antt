@@ -16,15 +16,15 @@ use Rattle.leaf.specs.Keys.{PrefixOf}
 use Rattle.leaf.specs.declared.Leaf.{Leaf}
 use Rattle.leaf.specs.declared.Upper.{Upper}
 use Rattle.lists.specs.All.{all_mono}
-use Rattle.lists.specs.Part.{length-part}
+use Rattle.lists.proofs.PartLaws.{length-part}
 use Rattle.model.specs.Charge.{charge, stored}
 use Rattle.model.specs.Good.{GoodLeaf, Tiled, limits}
 use Rattle.model.specs.Leaves.{Node, Under, node}
 use Rattle.model.specs.LimitLaws.{arena_limit_fits, key_limit_fits}
-use Rattle.model.specs.OwnerLaws.{tiled_at}
+use Rattle.model.proofs.OwnerLaws.{tiled_at}
 use Rattle.model.specs.PrefixLaws.{prefix_low, span_prefix}
-use Rattle.model.specs.RoomLaws.{merge_room}
-use Rattle.model.specs.StoredLaws.{prefix_grows, regained}
+use Rattle.model.proofs.RoomLaws.{merge_room}
+use Rattle.model.proofs.StoredLaws.{prefix_grows, regained}
 use Rattle.order.specs.Bytes.{◌≺◌}
 use Rattle.order.specs.OrderLaws.{below_asym}
 use Rattle.regrow.specs.Merge.{CanMerge, Merged, Merges}

@@ -14,8 +14,8 @@ use Rattle.model.specs.Good.{Bounds, Distinct, Fits, Tiled, Tiles}
 use Rattle.model.specs.Leaves.{Node, low_of, node, pairs_of, prefix_length, with_pairs}
 use Rattle.model.specs.Map.{Pair}
 use Rattle.model.specs.Rules.{merge_from}
-use Rattle.model.specs.StoredLaws.{charge_ahead}
-use Rattle.model.specs.TileLaws.{Replaces, merge_replaces}
+use Rattle.model.proofs.StoredLaws.{charge_ahead}
+use Rattle.model.proofs.TileLaws.{Replaces, merge_replaces}
 use Rattle.merge.specs.Merges.{MergeAsked, merge_at}
 use Rattle.route.specs.Routes.{leaf_at}
 

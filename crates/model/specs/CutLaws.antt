@@ -10,7 +10,7 @@ use Rattle.model.specs.MapLaws.{rising_drop, rising_take}
 use Rattle.model.specs.Rules.{cut_key, first_key, last_key, split_offset}
 use Rattle.order.specs.Bytes.{Bytes, ◌≺◌, ◌≼◌, separator}
 use Rattle.order.specs.OrderLaws.{below_asym, below_irrefl, upto_below_trans, upto_trans}
-use Rattle.order.specs.SeparatorLaws.{separator_above, separator_shortest, separator_upto}
+use Rattle.order.proofs.SeparatorLaws.{separator_above, separator_shortest, separator_upto}
 
 -- what holds of all keys holds of the last and of the first
 

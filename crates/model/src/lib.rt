@@ -7,7 +7,7 @@ pub enum Bound {
 }
 
 // A range's two bound kinds; the bound keys are lent beside it.
-#[derive(Drop)]
+#[derive(Clone, Copy)]
 pub struct Range {
     pub start: Bound,
     pub end: Bound,

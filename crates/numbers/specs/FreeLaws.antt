@@ -7,7 +7,7 @@ use Rattle.layout.specs.LaysWords.{holds_at}
 use Rattle.layout.specs.Presumed.{Presumed}
 use Rattle.layout.specs.declared.Header.{Header}
 use Rattle.model.specs.Leaves.{Node, node}
-use Rattle.model.specs.Numbers.{lowest_free_lem, lowest_least}
+use Rattle.model.proofs.Numbers.{lowest_free_lem, lowest_least}
 use Rattle.model.specs.Rules.{lowest_free, used}
 use Rattle.numbers.specs.BitLaws.{bit_zero, marked_itself, marked_others}
 use Rattle.numbers.specs.Bits.{FirstUnmarked, Marked, Sets, bit_of}

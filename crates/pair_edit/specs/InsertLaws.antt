@@ -15,12 +15,12 @@ use Rattle.model.specs.Good.{limits}
 use Rattle.model.specs.Leaves.{Node, node, with_pairs}
 use Rattle.model.specs.LimitLaws.{arena_limit_fits, fanout_limit_fits, fanout_three, key_limit_fits, pool_limit_fits, value_limit_fits}
 use Rattle.model.specs.Map.{Pair, pair}
-use Rattle.model.specs.PairLaws.{pairs_most}
+use Rattle.model.proofs.PairLaws.{pairs_most}
 use Rattle.model.specs.Place.{LookupBy, lookup_by}
-use Rattle.model.specs.RuleEdits.{inserted_charge, inserted_fits, inserted_is, inserted_pairs}
+use Rattle.model.proofs.RuleEdits.{inserted_charge, inserted_fits, inserted_is, inserted_pairs}
 use Rattle.model.specs.Rules.{insert_rule}
-use Rattle.model.specs.StoredLaws.{stored_charge}
-use Rattle.model.specs.TileLaws.{insert_tiles}
+use Rattle.model.proofs.StoredLaws.{stored_charge}
+use Rattle.model.proofs.TileLaws.{insert_tiles}
 use Rattle.order.specs.Bytes.{Bytes}
 use Rattle.pair_edit.specs.PairEdits.{CanInsert, InsertedPair, Inserts}
 use Rattle.room.specs.RoomMet.{presumed_apart, room_met, room_presumed}

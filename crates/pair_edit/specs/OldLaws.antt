@@ -15,7 +15,7 @@ use Rattle.layout.specs.UsedLaws.{length_same}
 use Rattle.layout.specs.declared.Header.{Header}
 use Rattle.model.specs.Leaves.{Node, node, owned, pairs_of}
 use Rattle.model.specs.Map.{lookup}
-use Rattle.model.specs.PairLaws.{lookup-owned}
+use Rattle.model.proofs.PairLaws.{lookup-owned}
 use Rattle.order.specs.Bytes.{Bytes}
 use Rattle.room.specs.RoomMet.{presumed_apart}
 use Rattle.route.specs.Lookups.{at_in_list, at_key, at_value}

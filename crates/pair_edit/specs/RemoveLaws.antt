@@ -1,6 +1,6 @@
 -- `remove_pair`: the leaf list that it leaves is the rule's, and the header's numbers are those of that list.
 -- Assumes nothing.
-use Rattle.model.specs.RuleEdits.{remove_edit}
+use Rattle.model.proofs.RuleEdits.{remove_edit}
 use Rattle.std.specs.Prelude.{◌+◌, ◌-◌, ◌^◌, ◌<◌, ◌≤◌, suc, ℕ, false, List, [], ◌++◌, ◌∷◌, ◌≡◌, refl, drop, get_or, length, take}
 use Rattle.std.proofs.Math.Option.{none}
 use Rattle.std.proofs.Common.{◌∙◌, ap, subst, sym, arith}
@@ -9,20 +9,22 @@ use Rattle.layout.specs.Pieces.{pair_in}
 use Rattle.layout.specs.Presumed.{Presumed}
 use Rattle.layout.specs.UsedLaws.{length_same}
 use Rattle.layout.specs.declared.Header.{Header}
-use Rattle.lists.specs.Part.{length-part, length-put, part}
+use Rattle.lists.proofs.PartLaws.{length-part, length-put}
+use Rattle.lists.specs.Part.{part}
 use Rattle.model.specs.Charge.{charge}
-use Rattle.model.specs.FitsLaws.{remove_fits}
+use Rattle.model.proofs.FitsLaws.{remove_fits}
 use Rattle.model.specs.Good.{Bounds, Tiles, limits}
 use Rattle.model.specs.LeafViews.{on, side, stay}
 use Rattle.model.specs.Leaves.{Node, node, owned, owner, pairs_of, with_pairs}
 use Rattle.model.specs.Map.{lookup, remove}
 use Rattle.model.specs.MapParts.{cost, length-remove}
-use Rattle.model.specs.OwnerLaws.{tiles_first}
-use Rattle.model.specs.PairLaws.{remove_pairs}
+use Rattle.model.proofs.OwnerLaws.{tiles_first}
+use Rattle.model.proofs.PairLaws.{remove_pairs}
 use Rattle.model.specs.Place.{RemoveBy, at, place, remove_by}
 use Rattle.model.specs.Rules.{remove_here, remove_rule}
-use Rattle.model.specs.SizeLaws.{remove-charge, remove_cut}
-use Rattle.model.specs.TileLaws.{remove_tiles}
+use Rattle.model.proofs.SizeLaws.{remove-charge}
+use Rattle.model.specs.LeafCuts.{remove_cut}
+use Rattle.model.proofs.TileLaws.{remove_tiles}
 use Rattle.order.specs.Bytes.{Bytes}
 use Rattle.pair_edit.specs.OldLaws.{around_leaf, edited_lays, leaf_region, spot_found, spot_in, spot_key, spot_leaf, spot_listed, spot_listed_dir, spot_owned, spot_slot}
 use Rattle.pair_edit.specs.PairEdits.{CanRemove, RemovedPair}

@@ -1,7 +1,7 @@
 -- `replace_pair`: the leaf list that it leaves is the rule's, for a key that is there makes no leaf full; and the header's numbers are those of
 -- that list.
 -- Assumes nothing.
-use Rattle.model.specs.RuleEdits.{insert_slack}
+use Rattle.model.proofs.RuleEdits.{insert_slack}
 use Rattle.std.specs.Prelude.{◌+◌, ◌-◌, ◌<◌, ◌≤◌, ◌^◌, suc, ℕ, List, [], ◌++◌, ◌∷◌, ◌≡◌, refl, drop, get_or, length, take}
 use Rattle.std.proofs.Math.Option.{some}
 use Rattle.std.proofs.Common.{◌∙◌, ap, subst, sym, arith}
@@ -12,7 +12,7 @@ use Rattle.layout.specs.Presumed.{Presumed}
 use Rattle.layout.specs.UsedLaws.{length_same}
 use Rattle.layout.specs.declared.Header.{Header}
 use Rattle.lists.specs.All.{all_at}
-use Rattle.lists.specs.Part.{length-put}
+use Rattle.lists.proofs.PartLaws.{length-put}
 use Rattle.model.specs.Charge.{charge}
 use Rattle.model.specs.Good.{Bounds, Fits, Tiles, Within, limits}
 use Rattle.model.specs.LeafViews.{full}
@@ -20,14 +20,14 @@ use Rattle.model.specs.Leaves.{Node, node, owned, owner, pairs_of, with_pairs}
 use Rattle.model.specs.LimitLaws.{fanout_three}
 use Rattle.model.specs.Map.{Pair, lookup, pair, put}
 use Rattle.model.specs.MapParts as map
-use Rattle.model.specs.Numbers.{insert_distinct, insert_numbers}
-use Rattle.model.specs.OwnerLaws.{tiled_at, tiles_first}
-use Rattle.model.specs.PairLaws.{insert_pairs}
+use Rattle.model.proofs.Numbers.{insert_distinct, insert_numbers}
+use Rattle.model.proofs.OwnerLaws.{tiled_at, tiles_first}
+use Rattle.model.proofs.PairLaws.{insert_pairs}
 use Rattle.model.specs.Place.{PutBy, at, place, put_by}
-use Rattle.model.specs.RoomLaws.{owned_room, replace_no_split}
+use Rattle.model.proofs.RoomLaws.{owned_room, replace_no_split}
 use Rattle.model.specs.Rules.{insert_rule}
-use Rattle.model.specs.SizeLaws.{insert_charge}
-use Rattle.model.specs.TileLaws.{insert_tiles}
+use Rattle.model.proofs.SizeLaws.{insert_charge}
+use Rattle.model.proofs.TileLaws.{insert_tiles}
 use Rattle.order.specs.Bytes.{Bytes}
 use Rattle.pair_edit.specs.OldLaws.{around_leaf, edited_lays, leaf_region, spot_found, spot_in, spot_key, spot_leaf, spot_listed, spot_listed_dir, spot_owned, spot_slot}
 use Rattle.pair_edit.specs.PairEdits.{CanReplace, ReplacedPair}

@@ -2,7 +2,8 @@
 -- Assumes nothing.
 use Rattle.std.specs.Prelude.{◌+◌, ◌-◌, ◌<◌, ◌≤◌, ℕ, [], ◌++◌, ◌∷◌, ◌≡◌, refl, drop, length, take}
 use Rattle.std.proofs.Common.{◌∙◌, ap, sym, arith, length-drop, take-append-drop, take_all}
-use Rattle.lists.specs.Part.{length-put, put, put-append, put_lent}
+use Rattle.lists.proofs.PartLaws.{length-put, put-append, put_lent}
+use Rattle.lists.specs.Part.{put}
 use Rattle.order.specs.Bytes.{Bytes, cmp}
 use Rattle.order.specs.Compared.{Compared}
 use Rattle.order.specs.OrderLaws.{cmp_front, cmp_level, cmp_lower, cmp_same, cmp_upper, heads, level, lower, upper}

@@ -11,7 +11,8 @@ use lib.Dec.{ltb}
 use lib.ListN.{drop, get_or, length, set, take}
 use lib.Seq.{drop-cons, drop-length, length-take-le}
 use Rattle.lists.specs.All.{All}
-use Rattle.lists.specs.Part.{put, put-nil, put-snoc}
+use Rattle.lists.specs.Part.{put}
+use Rattle.lists.proofs.PartLaws.{put-nil, put-snoc}
 use Rattle.model.specs.Answers.{code_of}
 use Rattle.model.specs.Limits.{key_limit}
 use Rattle.model.specs.Prefix.{prefix_end}

@@ -5,13 +5,13 @@ use Rattle.std.proofs.Common.{inl, inr, ap, sym, arith, eq-eqb, ne_eqb, take_all
 use Rattle.std.proofs.Math.Option.{Option, none, some}
 use Rattle.lists.specs.All.{All}
 use Rattle.lists.specs.Exact.{Exact, exact_and, exact_iff, exact_yes}
-use Rattle.lists.specs.Part.{part-put}
+use Rattle.lists.proofs.PartLaws.{part-put}
 use Rattle.model.specs.Answers.{long_key, short, size_of}
 use Rattle.model.specs.LeafViews.{fails, holds, truth}
 use Rattle.model.specs.Leaves.{Spans, Under}
 use Rattle.model.specs.Map.{in_range}
 use Rattle.model.specs.Prefix.{prefix_end, prefix_range, raised}
-use Rattle.model.specs.ScanLaws.{end_excluded, start_included}
+use Rattle.model.proofs.ScanLaws.{end_excluded, start_included}
 use Rattle.model.specs.declared.Refusal.{Refusal}
 use Rattle.order.specs.Bytes.{Bytes, ◌≼◌}
 use Rattle.order.specs.CommonLaws.{apart, even, leveled}

@@ -10,13 +10,13 @@ use model::{Bound, Range, Refusal};
 use moves::copy_bytes;
 
 // The range of a prefix, and the length of its end key (0 where the end is open).
-#[derive(Drop)]
+#[derive(Clone, Copy)]
 pub struct Span {
     pub range: Range,
     pub end: usize,
 }
 
-#[derive(Drop)]
+#[derive(Clone, Copy)]
 pub enum Prefixed {
     Made(Span),
     Refused(Refusal),

@@ -9,9 +9,10 @@ use lib.ListN.{drop, get_or, length, length-append, length-drop, set, take}
 use lib.Seq.{drop-cons, drop-length}
 use Rattle.layout.specs.FrameLaws.{WordsIn}
 use Rattle.layout.specs.Order.{word_extent}
-use Rattle.layout.specs.OrderLaws.{order_top}
+use Rattle.lists.proofs.ExtentLaws.{order_top}
 use Rattle.lists.specs.All.{all_at}
-use Rattle.lists.specs.Part.{drop-put, get_or-part, get_or-put_before, length-part, part, part-put_before, put, put-cons, put-nil, put_one, take-put_le}
+use Rattle.lists.proofs.PartLaws.{drop-put, get_or-part, get_or-put_before, length-part, part-put_before, put-cons, put-nil, put_one, take-put_le}
+use Rattle.lists.specs.Part.{part, put}
 use Rattle.regrow.specs.Regrow.{CanRegain, CanRegrow, Regained, Regrown, low_word_at, part_of, regrown_arena, regrown_word, regrown_words, words_at}
 use Rattle.regrow.specs.RegrowLaws.{count_long, from_ahead, from_long, pairs_ordered, place_in, regrown_before, regrown_lays, room_fits}
 use Rattle.words.specs.Words.{Unpacked, first_slot, slot_word, word_count, word_leaf, word_offset, word_suffix, word_value}

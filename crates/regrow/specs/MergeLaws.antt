@@ -17,9 +17,10 @@ use Rattle.layout.specs.AroundLaws.{around_next, around_prev, around_at, inside_
 use Rattle.layout.specs.FrameLaws.{WordsIn}
 use Rattle.layout.specs.LaysLaws.{each_prefixes, each_words}
 use Rattle.layout.specs.Order.{word_extent, leaf_words, words_of}
-use Rattle.layout.specs.OrderLaws.{order_top}
+use Rattle.lists.proofs.ExtentLaws.{order_top}
 use Rattle.layout.specs.RegionLaws.{owns_kept, owns_at}
-use Rattle.lists.specs.Part.{length-part, part, part-put, put-part}
+use Rattle.lists.proofs.PartLaws.{length-part, part-put, put-part}
+use Rattle.lists.specs.Part.{part}
 use Rattle.model.specs.Leaves.{Node}
 use Rattle.regrow.specs.Merge.{CanMerge, Merged, Merges, low_from}
 use Rattle.regrow.specs.Regrow.{CanRegrow, Regrown, RegrownList, Regrows, regrown_arena, regrown_slots, regrown_word, regrown_words, words_at}

@@ -13,7 +13,7 @@ use Rattle.leaf.specs.Keys.{KeyAt, UpperAt, key_at}
 use Rattle.leaf.specs.declared.Upper.{Upper}
 use Rattle.leaf.specs.declared.Upper.TheVariants.{At, Nothing}
 use Rattle.lines.specs.Grammar.{Number}
-use Rattle.lists.specs.Part.{put-nil}
+use Rattle.lists.proofs.PartLaws.{put-nil}
 use Rattle.model.specs.Answers.{accepted, leaf_at, shown}
 use Rattle.model.specs.Answers as model
 use Rattle.model.specs.Leaves.{Node, low_of, node, prefix_length}

@@ -12,12 +12,13 @@ use Rattle.layout.specs.Lays.{W}
 use Rattle.layout.specs.Places.{place_of}
 use Rattle.layout.specs.declared.Header.{Header}
 use Rattle.lines.specs.Grammar.{Number}
-use Rattle.lists.specs.Part.{length-put, part-put, put}
+use Rattle.lists.proofs.PartLaws.{length-put, part-put}
+use Rattle.lists.specs.Part.{put}
 use Rattle.model.specs.Answers.{Answer, accepted, beyond, create_answer, get_answer, get_gt_answer, key_written, number_of, range_found, refused}
 use Rattle.model.specs.LeafViews.{fails, holds, truth}
 use Rattle.model.specs.Leaves.{Node}
 use Rattle.model.specs.Map.{Pair}
-use Rattle.model.specs.ScanLaws.{found_open_end}
+use Rattle.model.proofs.ScanLaws.{found_open_end}
 use Rattle.model.specs.declared.Refusal.{Refusal}
 use Rattle.model.specs.declared.Refusal.TheVariants as refusal
 use Rattle.order.specs.Bytes.{Bytes}

@@ -18,7 +18,7 @@ use tree_get::{Found, Shown, View, get_value, leaf_at};
 use tree_range::{Scan, get_gt, range_value};
 
 // The header of a `new` index, or none where it was refused; and the place behind what was written.
-#[derive(Drop)]
+#[derive(Clone, Copy)]
 pub enum Opened {
     Made(Header, usize),
     Kept(usize),

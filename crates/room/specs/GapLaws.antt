@@ -10,7 +10,7 @@ use Rattle.layout.specs.EditLaws.{words_long}
 use Rattle.layout.specs.FrameLaws.{WordsIn}
 use Rattle.layout.specs.LaysWords.{slot_at}
 use Rattle.layout.specs.Order.{leaf_words, word_extent, words_of}
-use Rattle.layout.specs.OrderLaws.{order_append, order_top}
+use Rattle.lists.proofs.ExtentLaws.{order_append, order_top}
 use Rattle.slots.specs.Edits.{Gap}
 use Rattle.words.specs.Words.{word_count, word_offset}
 use Rattle.room.specs.PackLaws.{laid_at}

@@ -5,7 +5,7 @@ use Rattle.std.proofs.Common.{append_assoc, append-nil, ◌∙◌, ap, subst, sy
 use Rattle.layout.specs.Buffers.{Buffers}
 use Rattle.layout.specs.FrameLaws.{SameWords, WordsIn, all_of}
 use Rattle.layout.specs.Order.{leaf_words, word_extent, words_of}
-use Rattle.layout.specs.OrderLaws.{order_top, order_total, order_widen}
+use Rattle.lists.proofs.ExtentLaws.{order_top, order_total, order_widen}
 use Rattle.lists.specs.All.{All}
 use Rattle.words.specs.Words.{word_count, word_offset}
 use Rattle.room.specs.Leaf.{Down, Up}

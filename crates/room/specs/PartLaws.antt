@@ -13,7 +13,7 @@ use Rattle.layout.specs.FrameLaws.{WordsIn, first_of}
 use Rattle.layout.specs.LaysParts.{total_append}
 use Rattle.layout.specs.LaysWords.{slot_at}
 use Rattle.layout.specs.Order.{leaf_words, word_extent, words_of}
-use Rattle.layout.specs.OrderLaws.{order_append}
+use Rattle.lists.proofs.ExtentLaws.{order_append}
 use Rattle.layout.specs.RegionLaws.{low_words, low_written, region_ahead, region_behind, region_low}
 use Rattle.layout.specs.SlotLaws.{replace_words}
 use Rattle.lists.specs.Part.{put}

@@ -5,7 +5,7 @@ use Rattle.layout.specs.AroundLaws.{LaysAround}
 use Rattle.layout.specs.Buffers.{Buffers}
 use Rattle.layout.specs.FrameLaws.{SameWords, WordsIn}
 use Rattle.layout.specs.Order.{leaf_words, word_extent, words_of}
-use Rattle.layout.specs.OrderLaws.{total}
+use Rattle.lists.specs.Extents.{total}
 use Rattle.layout.specs.RegionLaws.{Owns}
 use Rattle.lists.specs.All.{All}
 use Rattle.model.specs.Leaves.{Node}

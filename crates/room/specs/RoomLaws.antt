@@ -9,7 +9,7 @@ use Rattle.layout.specs.FrameLaws.{SameWords}
 use Rattle.layout.specs.LaysLaws.{each_words}
 use Rattle.layout.specs.LaysParts.{words_append}
 use Rattle.layout.specs.Order.{leaf_words, word_extent, words_of}
-use Rattle.layout.specs.OrderLaws.{order_total, order_widen}
+use Rattle.lists.proofs.ExtentLaws.{order_total, order_widen}
 use Rattle.layout.specs.RegionLaws.{owns_at}
 use Rattle.lists.specs.All.{All, all_left, all_right}
 use Rattle.model.specs.Leaves.{node}

@@ -4,7 +4,7 @@ use Rattle.directory.specs.Used.{lent, used_from, used_to, word_at}
 use Rattle.layout.specs.AroundLaws.{words_behind}
 use Rattle.layout.specs.Lays.{LaysAt}
 use Rattle.layout.specs.Order.{extents}
-use Rattle.layout.specs.OrderLaws.{total}
+use Rattle.lists.specs.Extents.{total}
 use Rattle.model.specs.Leaves.{Node}
 use Rattle.slots.specs.Edits.{Gap}
 use Rattle.slots.specs.Whole.{Apart}

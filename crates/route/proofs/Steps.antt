@@ -19,7 +19,7 @@ use Rattle.leaf.specs.declared.Upper.{Upper}
 use Rattle.leaf.specs.declared.Upper.TheVariants.{At}
 use Rattle.lists.specs.Exact.{Exact, exact_no, exact_yes, refuted}
 use Rattle.model.specs.Leaves.{Node, Under, low_of, node, owner}
-use Rattle.model.specs.OwnerLaws.{no_other_owner, one_owner}
+use Rattle.model.proofs.OwnerLaws.{no_other_owner, one_owner}
 use Rattle.order.specs.Bytes.{Bytes, ◌≺◌, ◌≼◌}
 use Rattle.order.specs.Compared.{Compared, compared_equal, compared_greater, compared_less}
 use Rattle.order.specs.OrderLaws.{after, before, below_asym, equal, nil_upto, tri, upto_of_eq}

@@ -11,7 +11,7 @@ use Rattle.leaf.specs.Finds.{Suffixes, find_told, leaf_slots, suffixes_of}
 use Rattle.leaf.specs.declared.Find.{Find}
 use Rattle.leaf.specs.declared.Leaf.{Leaf}
 use Rattle.model.specs.Leaves.{Node, owner}
-use Rattle.model.specs.OwnerLaws.{tiled_at}
+use Rattle.model.proofs.OwnerLaws.{tiled_at}
 use Rattle.model.specs.Place.{place}
 use Rattle.model.specs.PrefixLaws.{prefix_low}
 use Rattle.order.specs.Bytes.{Bytes}

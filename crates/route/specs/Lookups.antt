@@ -10,7 +10,7 @@ use Rattle.layout.specs.declared.Header.{Header}
 use Rattle.lists.specs.Part.{part}
 use Rattle.model.specs.Leaves.{Node, owner, pairs_of}
 use Rattle.model.specs.Map.{lookup, pair}
-use Rattle.model.specs.PairLaws.{lookup-owned}
+use Rattle.model.proofs.PairLaws.{lookup-owned}
 use Rattle.model.specs.Place.{Place, at, gap, gap_lookup, place, place_key, place-lookup}
 use Rattle.order.specs.Bytes.{Bytes}
 use Rattle.route.specs.RouteLaws.{owner_pairs, place_in, routed}

@@ -20,7 +20,7 @@ use Rattle.lists.specs.All.{All}
 use Rattle.lists.specs.Part.{part}
 use Rattle.model.specs.Leaves.{Node, low_of, node, owned, owner}
 use Rattle.model.specs.LimitLaws.{fanout_three}
-use Rattle.model.specs.OwnerLaws.{one_owner, owned_at, tiles_first}
+use Rattle.model.proofs.OwnerLaws.{one_owner, owned_at, tiles_first}
 use Rattle.model.specs.PrefixLaws.{span_long, span_prefix}
 use Rattle.order.specs.Bytes.{Bytes}
 use Rattle.route.specs.Routes.{Directed, LeafIs, Routed, UpperRead, leaf_at, low_place, prefix_at, upper_of}

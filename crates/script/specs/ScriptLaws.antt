@@ -11,7 +11,8 @@ use Rattle.io.specs.Counts.{clamp_len}
 use Rattle.libc.specs.Io.{Moved}
 use Rattle.lines.specs.Grammar.{Command}
 use Rattle.lists.specs.Exact.{Exact, exact_no}
-use Rattle.lists.specs.Part.{part, part-put, put}
+use Rattle.lists.specs.Part.{part, put}
+use Rattle.lists.proofs.PartLaws.{part-put}
 use Rattle.order.specs.Bytes.{Bytes}
 use Rattle.session.specs.Session.{Carries, ReplyAsked, ReplyMade, Tells, no_index}
 use Rattle.session.specs.Takes.{Feeds, LinesAsked, LinesTaken, Takes, line_room}

@@ -18,9 +18,9 @@ use Rattle.model.specs.Leaves.{Node, low_of, pairs_of}
 use Rattle.model.specs.Limits.{key_limit}
 use Rattle.model.specs.Map.{Pair, first_in, lookup}
 use Rattle.model.specs.MapParts.{weight-append, weight-remove}
-use Rattle.model.specs.PairLaws.{rising_pairs}
+use Rattle.model.proofs.PairLaws.{rising_pairs}
 use Rattle.model.specs.Rules.{insert_rule, remove_rule}
-use Rattle.model.specs.ScanLaws.{first_lookup}
+use Rattle.model.proofs.ScanLaws.{first_lookup}
 use Rattle.model.specs.declared.Refusal.{Refusal}
 use Rattle.model.specs.declared.Refusal.TheVariants.{LongKey, LongValue, NoLeaf, NoRoom, Shape, ShortOutput}
 use Rattle.order.specs.Bytes.{Bytes}

@@ -18,13 +18,14 @@ use Rattle.lines.specs.Grammar.{Command}
 use Rattle.lines.specs.Grammar.Command.{dels, gets, nexts, puts, shows}
 use Rattle.lines.specs.declared.Line.{Line}
 use Rattle.lines.specs.declared.Line.TheVariants.{Del, Get, Next, Put}
-use Rattle.lists.specs.Part.{length-put, part-put, put}
+use Rattle.lists.proofs.PartLaws.{length-put, part-put}
+use Rattle.lists.specs.Part.{put}
 use Rattle.model.specs.Answers.{Answer, accepted, insert_answer, long_key, refused, remove_answer, short, size_of}
 use Rattle.model.specs.Answers as model
 use Rattle.model.specs.Good.{Good, limits}
 use Rattle.model.specs.Leaves.{Node, pairs_of}
 use Rattle.model.specs.Map.{lookup}
-use Rattle.model.specs.PairLaws.{lookup-owned, remove_absent}
+use Rattle.model.proofs.PairLaws.{lookup-owned, remove_absent}
 use Rattle.model.specs.PassedLaws.{passed_if, same_accepted}
 use Rattle.model.specs.Rules.{remove_rule}
 use Rattle.model.specs.declared.Refusal.TheVariants.{LongKey, ShortOutput}

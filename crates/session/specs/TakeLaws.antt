@@ -13,7 +13,8 @@ use Rattle.lines.specs.Grammar.{Command}
 use Rattle.lines.specs.OneLaws.{says_one}
 use Rattle.lists.specs.All.{All}
 use Rattle.lists.specs.Exact.{Exact, exact_iff, exact_leb, exact_no, refuted}
-use Rattle.lists.specs.Part.{part, part-add, put-nil}
+use Rattle.lists.specs.Part.{part}
+use Rattle.lists.proofs.PartLaws.{part-add, put-nil}
 use Rattle.order.specs.Bytes.{Bytes}
 use Rattle.session.specs.Session.{ReplyAsked, ReplyMade, Sized, Tells, answer_limit}
 use Rattle.session.specs.Takes.{Feeds, LineAsked, LineTaken, LinesAsked, LinesTaken, Taken, Takes, line_room}

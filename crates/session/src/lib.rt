@@ -35,14 +35,14 @@ pub struct Session {
 }
 
 // A session and the place behind what was written.
-#[derive(Drop)]
+#[derive(Clone, Copy)]
 pub struct Replied {
     pub session: Session,
     pub at: usize,
 }
 
 // A header and the place behind what was written.
-#[derive(Drop)]
+#[derive(Clone, Copy)]
 struct Served {
     pub header: Header,
     pub at: usize,

@@ -7,7 +7,8 @@ use native.Mathlib.Numerals.{add-one}
 use native.Mathlib.Omega.{arith}
 use lib.ListN.{get_or, length, set}
 use Rattle.lists.specs.All.{all_at}
-use Rattle.lists.specs.Part.{put-append, put-cons, get_or-part, length-part, part, put_one, put}
+use Rattle.lists.proofs.PartLaws.{put-append, put-cons, get_or-part, length-part, put_one}
+use Rattle.lists.specs.Part.{part, put}
 use Rattle.order.specs.Bytes.{Bytes}
 use Rattle.slots.specs.Edits.{PutIn, Puts, Replaced, Replaces, Shortened, Shortens, TakenOut, Takes, slot_of, words_at}
 use Rattle.slots.specs.EditsLaws.{put_in_is, replaced, shortened, taken_out}

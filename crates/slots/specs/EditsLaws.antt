@@ -9,7 +9,8 @@ use Rattle.layout.specs.RegionLaws.{owns_kept}
 use Rattle.layout.specs.ShiftLaws.{Leads, shift_leaf, shift_ready, shifted}
 use Rattle.layout.specs.SlotLaws.{put_in_written, replace_value, take_out}
 use Rattle.lists.specs.All.{All}
-use Rattle.lists.specs.Part.{get_or-part, length-part, length-put, part, put}
+use Rattle.lists.proofs.PartLaws.{get_or-part, length-part, length-put}
+use Rattle.lists.specs.Part.{part, put}
 use Rattle.model.specs.Leaves.{with_pairs}
 use Rattle.model.specs.Map.{pair}
 use Rattle.order.specs.Bytes.{Bytes}

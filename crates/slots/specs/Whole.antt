@@ -9,7 +9,8 @@ use Rattle.layout.specs.Lays.{LaysAt}
 use Rattle.layout.specs.LaysLaws.{each_words}
 use Rattle.layout.specs.RegionLaws.{owns_at}
 use Rattle.lists.specs.All.{All}
-use Rattle.lists.specs.Part.{put_one, put}
+use Rattle.lists.proofs.PartLaws.{put_one}
+use Rattle.lists.specs.Part.{put}
 use Rattle.model.specs.Good.{Distinct}
 use Rattle.model.specs.Leaves.{Node}
 use Rattle.slots.specs.Around.{Around, Becomes}

@@ -14,11 +14,11 @@ use Rattle.model.specs.Leaves.{Node, at_owner, node, pairs_of, with_pairs}
 use Rattle.model.specs.LimitLaws.{fanout_three}
 use Rattle.model.specs.Map.{Pair, put}
 use Rattle.model.specs.MapParts.{weight-append}
-use Rattle.model.specs.Numbers.{insert_distinct, insert_numbers, lowest_below}
+use Rattle.model.proofs.Numbers.{insert_distinct, insert_numbers, lowest_below}
 use Rattle.model.specs.Rules.{insert_rule, lowest_free}
-use Rattle.model.specs.SplitInsert.{cut_stored, put_here}
-use Rattle.model.specs.StoredLaws.{charge_ahead}
-use Rattle.model.specs.TileLaws.{insert_tiles}
+use Rattle.model.specs.StoredCut.{cut_stored, put_here}
+use Rattle.model.proofs.StoredLaws.{charge_ahead}
+use Rattle.model.proofs.TileLaws.{insert_tiles}
 use Rattle.order.specs.Bytes.{Bytes, ◌≺◌, ◌≼◌}
 use Rattle.order.specs.OrderLaws.{cmp_before}
 use Rattle.route.specs.RouteLaws.{routed}

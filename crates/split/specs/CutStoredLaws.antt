@@ -14,11 +14,12 @@ use Rattle.layout.specs.Presumed.{Presumed}
 use Rattle.layout.specs.RegionLaws.{Owns, owns_at, owns_free, owns_kept}
 use Rattle.layout.specs.declared.Header.{Header}
 use Rattle.lists.specs.All.{All}
-use Rattle.lists.specs.Part.{length-put, part-put, put}
+use Rattle.lists.proofs.PartLaws.{length-put, part-put}
+use Rattle.lists.specs.Part.{put}
 use Rattle.model.specs.Charge.{stored}
 use Rattle.model.specs.Leaves.{Node, node}
 use Rattle.model.specs.LimitLaws.{arena_limit_fits, key_limit_fits, pool_limit_fits}
-use Rattle.model.specs.StoredLaws.{stored_charge}
+use Rattle.model.proofs.StoredLaws.{stored_charge}
 use Rattle.order.specs.Bytes.{Bytes}
 use Rattle.room.specs.RoomMet.{presumed_apart, room_apart, room_met}
 use Rattle.room.specs.Rooms.{CanMakeRoom, MadeRoom}

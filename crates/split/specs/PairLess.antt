@@ -13,11 +13,11 @@ use Rattle.model.specs.LeafViews.{fails, full, holds, settled, slack, truth}
 use Rattle.model.specs.Leaves.{Node, Spans, at_owner, low_of, owner, reaches, with_pairs}
 use Rattle.model.specs.Map.{Pair, lookup, put, remove}
 use Rattle.model.specs.MapParts.{length-put}
-use Rattle.model.specs.Numbers.{AllNumbers}
-use Rattle.model.specs.OwnerLaws.{no_other_owner}
+use Rattle.model.proofs.Numbers.{AllNumbers}
+use Rattle.model.proofs.OwnerLaws.{no_other_owner}
 use Rattle.model.specs.Place.{gap, gap_lookup, place}
 use Rattle.model.specs.Rules.{insert_here, insert_rule, lowest_free}
-use Rattle.model.specs.TileLaws.{leaf_remove}
+use Rattle.model.proofs.TileLaws.{leaf_remove}
 use Rattle.order.specs.Bytes.{Bytes}
 use Rattle.order.specs.OrderLaws.{after, before, cmp_after, cmp_before, cmp_equal, cmp_refl, equal, tri}
 use Rattle.route.specs.Routes.{leaf_at}

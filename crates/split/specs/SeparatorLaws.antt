@@ -9,11 +9,12 @@ use Rattle.judge.specs.declared.Plan.{Plan}
 use Rattle.layout.specs.Presumed.{Index, Presumed}
 use Rattle.layout.specs.declared.Header.{Header}
 use Rattle.lists.specs.All.{all_at}
-use Rattle.lists.specs.Part.{length-part, length-put, part, part-put_in, put}
+use Rattle.lists.proofs.PartLaws.{length-part, length-put, part-put_in}
+use Rattle.lists.specs.Part.{part, put}
 use Rattle.model.specs.Good.{Within, limits}
 use Rattle.model.specs.Leaves.{Node}
 use Rattle.model.specs.Map.{Pair, pair}
-use Rattle.model.specs.OwnerLaws.{tiled_at}
+use Rattle.model.proofs.OwnerLaws.{tiled_at}
 use Rattle.model.specs.Place.{gap, place}
 use Rattle.order.specs.Bytes.{Bytes, ◌≺◌}
 use Rattle.order.specs.OrderLaws.{not_below_nil}

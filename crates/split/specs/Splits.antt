@@ -12,7 +12,7 @@ use Rattle.lists.specs.All.{All}
 use Rattle.model.specs.Leaves.{Node, Spans}
 use Rattle.model.specs.Limits.{key_limit, value_limit}
 use Rattle.model.specs.Rules.{lowest_free}
-use Rattle.model.specs.SplitInsert.{cut_stored}
+use Rattle.model.specs.StoredCut.{cut_stored}
 use Rattle.order.specs.Bytes.{Bytes}
 use Rattle.route.specs.Routes.{leaf_at, prefix_at, upper_of}
 use Rattle.slots.specs.Whole.{Apart}

@@ -8,7 +8,8 @@ use Rattle.layout.specs.Presumed.{Presumed}
 use Rattle.layout.specs.declared.Header.{Header}
 use Rattle.leaf.specs.declared.Leaf.{Leaf}
 use Rattle.model.specs.Leaves.{Node, node}
-use Rattle.model.specs.StartLaws.{rest_past, rest_step, rest_of}
+use Rattle.model.proofs.StartLaws.{rest_past, rest_step}
+use Rattle.model.specs.Start.{rest_of}
 use Rattle.route.specs.RouteLaws.{directed, leaf_lays, leaf_word, place_in}
 use Rattle.route.specs.Routes.{LeafIs, low_place}
 use Rattle.spots.specs.Spots.{Counted, NextRead, PairRead, SpotIn}

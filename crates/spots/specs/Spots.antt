@@ -5,7 +5,7 @@ use Rattle.layout.specs.Presumed.{Index, Inner}
 use Rattle.layout.specs.declared.Header.{Header}
 use Rattle.model.specs.Leaves.{Node, node}
 use Rattle.model.specs.Map.{Pair}
-use Rattle.model.specs.StartLaws.{rest_of}
+use Rattle.model.specs.Start.{rest_of}
 use Rattle.route.specs.Routes.{low_place, prefix_at}
 use Rattle.spots.specs.declared.Next.{Next}
 use Rattle.spots.specs.declared.Next.TheVariants.{At, Past}

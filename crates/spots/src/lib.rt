@@ -17,14 +17,14 @@ pub struct Spot {
     pub slot: usize,
 }
 
-#[derive(Drop)]
+#[derive(Clone, Copy)]
 pub enum Next {
     At(Spot),
     Past,
 }
 
 // A pair in the arena: its leaf's prefix at the front of the low key, then its own suffix with the value right behind.
-#[derive(Drop)]
+#[derive(Clone, Copy)]
 pub struct Pieced {
     pub low: Offset,
     pub prefix: usize,
@@ -32,7 +32,7 @@ pub struct Pieced {
 }
 
 // A key in the leaf that owns it (L1): at a pair, or in the gap before a slot.
-#[derive(Drop)]
+#[derive(Clone, Copy)]
 pub enum Sought {
     At(Spot),
     Gap(Spot),

@@ -10,7 +10,8 @@ use Rattle.layout.specs.Examples.{Blank, blank_holds, header}
 use Rattle.layout.specs.Lays.{W}
 use Rattle.layout.specs.LaysWords.{region_in}
 use Rattle.layout.specs.declared.Header.{Header}
-use Rattle.lists.specs.Part.{get_or-put_in, put_one, put, length-put}
+use Rattle.lists.proofs.PartLaws.{get_or-put_in, put_one, length-put}
+use Rattle.lists.specs.Part.{put}
 use Rattle.model.specs.Answers.{meets_sizes}
 use Rattle.model.specs.LeafViews.{fails, holds, truth}
 use Rattle.model.specs.LimitLaws.{meets_sizes_lem, fanout_three, pool_one}

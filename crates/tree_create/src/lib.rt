@@ -23,7 +23,7 @@ pub struct Answered {
     pub answer: Change,
 }
 
-#[derive(Drop)]
+#[derive(Clone, Copy)]
 pub enum Length {
     Pairs(usize),
     Unmeasured(Refusal),

@@ -10,14 +10,14 @@ use tree_read::check::holds_index;
 use words::{LowKey, Offset};
 
 // Where the key's value lies in the arena, and its length.
-#[derive(Drop)]
+#[derive(Clone, Copy)]
 pub enum Found {
     At(Offset, usize),
     Nothing,
     Refused(Refusal),
 }
 
-#[derive(Drop)]
+#[derive(Clone, Copy)]
 pub enum Contained {
     Yes,
     No,
@@ -25,7 +25,7 @@ pub enum Contained {
 }
 
 // A leaf of the leaf list: where its low key lies, its upper key or none, its prefix length and its number of pairs.
-#[derive(Drop)]
+#[derive(Clone, Copy)]
 pub struct View {
     pub low: LowKey,
     pub upper: Upper,
@@ -33,7 +33,7 @@ pub struct View {
     pub pairs: usize,
 }
 
-#[derive(Drop)]
+#[derive(Clone, Copy)]
 pub enum Shown {
     Leaf(View),
     End,

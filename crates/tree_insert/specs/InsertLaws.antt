@@ -16,7 +16,8 @@ use Rattle.judge.specs.declared.Judged.TheVariants.{Insert, Refuse, Replace}
 use Rattle.layout.specs.Lays.{Holds}
 use Rattle.layout.specs.Presumed.{Index, Inner, Presumed}
 use Rattle.layout.specs.declared.Header.{Header}
-use Rattle.lists.specs.Part.{put, put-nil}
+use Rattle.lists.specs.Part.{put}
+use Rattle.lists.proofs.PartLaws.{put-nil}
 use Rattle.model.specs.Answers.{Answer, refused, short}
 use Rattle.model.specs.Answers as model
 use Rattle.model.specs.Leaves.{Node, pairs_of}

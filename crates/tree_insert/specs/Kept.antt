@@ -10,12 +10,12 @@ use Rattle.layout.specs.Presumed.{Presumed}
 use Rattle.layout.specs.declared.Header.{Header}
 use Rattle.model.specs.Answers.{Answer, accepted, insert_answer, refused}
 use Rattle.model.specs.Answers as model
-use Rattle.model.specs.FitsLaws.{insert_fits}
+use Rattle.model.proofs.FitsLaws.{insert_fits}
 use Rattle.model.specs.Good.{limits}
-use Rattle.model.specs.GoodLaws.{insert_good}
+use Rattle.model.proofs.GoodLaws.{insert_good}
 use Rattle.model.specs.Leaves.{Node}
 use Rattle.model.specs.LimitLaws.{fanout_three}
-use Rattle.model.specs.TileLaws.{insert_tiles}
+use Rattle.model.proofs.TileLaws.{insert_tiles}
 use Rattle.order.specs.Bytes.{Bytes}
 use Rattle.tree_insert.specs.Outcomes.{InsertBy, InsertOutcome}
 use Rattle.tree_insert.specs.PassedLaws.{passed}

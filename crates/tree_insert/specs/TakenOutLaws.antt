@@ -15,7 +15,7 @@ use Rattle.model.specs.LeafViews.{on, side, stay}
 use Rattle.model.specs.Leaves.{Node, at_owner, low_of, owner, reaches, with_pairs}
 use Rattle.model.specs.Map.{Above, Pair, Rising, lookup, pair, put, remove}
 use Rattle.model.specs.MapParts.{length-remove}
-use Rattle.model.specs.OwnerLaws.{tiles_first}
+use Rattle.model.proofs.OwnerLaws.{tiles_first}
 use Rattle.model.specs.Place.{Place, at, gap, next, place}
 use Rattle.model.specs.Rules.{free_from, insert_here, insert_rule, lowest_free, remove_here, remove_rule, split_if_full, used}
 use Rattle.order.specs.Bytes.{Bytes}

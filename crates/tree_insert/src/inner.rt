@@ -11,7 +11,7 @@ use split::split_leaf;
 use spots::Spot;
 
 // Where a new pair goes, in an index that has room for it.
-#[derive(Drop)]
+#[derive(Clone, Copy)]
 struct Placed {
     header: Header,
     spot: Spot,

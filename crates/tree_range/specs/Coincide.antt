@@ -9,7 +9,7 @@ use Rattle.layout.specs.declared.Header.{Header}
 use Rattle.model.specs.Answers.{Answer, first_answer, get_gt_answer, range_answer, range_found}
 use Rattle.model.specs.Leaves.{Node}
 use Rattle.model.specs.Map.{Pair}
-use Rattle.model.specs.ScanLaws.{found_open_end, found_open_start, range_open_end, range_open_start}
+use Rattle.model.proofs.ScanLaws.{found_open_end, found_open_start, range_open_end, range_open_start}
 use Rattle.model.specs.declared.Bound.TheVariants.{Open}
 use Rattle.model.specs.declared.Range.{Range}
 use Rattle.order.specs.Bytes.{Bytes}

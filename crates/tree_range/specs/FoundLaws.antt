@@ -6,13 +6,15 @@ use Rattle.std.proofs.Common.{◌∙◌, ap, subst, sym, arith, le-ltb, lt-ltb}
 use Rattle.layout.specs.Pieces.{InList, Pieces, pair_in}
 use Rattle.layout.specs.Presumed.{Presumed}
 use Rattle.layout.specs.declared.Header.{Header}
-use Rattle.lists.specs.Part.{length-part, put, put-nil}
+use Rattle.lists.proofs.PartLaws.{length-part, put-nil}
+use Rattle.lists.specs.Part.{put}
 use Rattle.model.specs.Answers.{Answer, accepted, beyond, code_of, everything, inverted, key_written, long_bound, range_found, refused}
 use Rattle.model.specs.Leaves.{Node, node, pairs_of}
 use Rattle.model.specs.Map.{Pair, before_end, pair}
-use Rattle.model.specs.PairLaws.{rising_pairs}
-use Rattle.model.specs.ScanLaws.{range_open_end, range_open_start}
-use Rattle.model.specs.StartLaws.{first_from, first_before, from_start, rest_head}
+use Rattle.model.proofs.PairLaws.{rising_pairs}
+use Rattle.model.proofs.ScanLaws.{range_open_end, range_open_start}
+use Rattle.model.proofs.StartLaws.{first_from, rest_head}
+use Rattle.model.specs.Start.{first_before, from_start}
 use Rattle.model.specs.declared.Range.{Range}
 use Rattle.model.specs.declared.Refusal.{Refusal}
 use Rattle.model.specs.declared.Refusal.TheVariants.{InvertedRange, LongKey, ShortOutput}

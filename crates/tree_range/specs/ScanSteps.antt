@@ -18,8 +18,9 @@ use Rattle.model.specs.Limits.{key_limit}
 use Rattle.model.specs.Map.{Pair, before_end, by, pair}
 use Rattle.model.specs.Place.{LookupBy, Place, lookup_by, place}
 use Rattle.model.specs.Place.Place.{at, gap}
-use Rattle.model.specs.ScanLaws.{Closed}
-use Rattle.model.specs.StartLaws.{from_start, rest_of, slot_from, start_open, start_owner}
+use Rattle.model.specs.Scans.{Closed}
+use Rattle.model.specs.Start.{from_start, rest_of, slot_from}
+use Rattle.model.proofs.StartLaws.{start_open, start_owner}
 use Rattle.model.specs.declared.Bound.{Bound}
 use Rattle.model.specs.declared.Bound.TheVariants.{Excluded, Included, Open}
 use Rattle.model.specs.declared.Range.{Range}

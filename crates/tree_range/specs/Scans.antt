@@ -8,7 +8,7 @@ use Rattle.leaf.specs.declared.Find.TheVariants.{At, Gap}
 use Rattle.model.specs.Answers.{inverted, long_bound}
 use Rattle.model.specs.Leaves.{pairs_of}
 use Rattle.model.specs.Map.{before_end}
-use Rattle.model.specs.StartLaws.{from_start}
+use Rattle.model.specs.Start.{from_start}
 use Rattle.model.specs.declared.Bound.{Bound}
 use Rattle.model.specs.declared.Bound.TheVariants.{Excluded, Included, Open}
 use Rattle.model.specs.declared.Range.{Range}

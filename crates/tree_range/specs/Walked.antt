@@ -10,15 +10,16 @@ use Rattle.layout.specs.Lays.{W}
 use Rattle.layout.specs.Places.{place_of}
 use Rattle.layout.specs.Presumed.{w_presumed}
 use Rattle.layout.specs.declared.Header.{Header}
-use Rattle.lists.specs.Part.{part, part-put, put}
+use Rattle.lists.specs.Part.{part, put}
+use Rattle.lists.proofs.PartLaws.{part-put}
 use Rattle.model.specs.Answers.{Answer, accepted, range_answer}
 use Rattle.model.specs.Good.{Within, limits}
 use Rattle.model.specs.Leaves.{Node, pairs_of}
 use Rattle.model.specs.Limits.{key_limit}
 use Rattle.model.specs.Map.{Pair, first_in, pair}
 use Rattle.model.specs.MapSame.{pair_path}
-use Rattle.model.specs.PairLaws.{pairs_within, rising_pairs}
-use Rattle.model.specs.ScanLaws.{first_found, first_lookup}
+use Rattle.model.proofs.PairLaws.{pairs_within, rising_pairs}
+use Rattle.model.proofs.ScanLaws.{first_found, first_lookup}
 use Rattle.model.specs.Walk.{length-within, listed, onward, onward_not_inverted, walk, walk_take, within}
 use Rattle.model.specs.declared.Range.{Range}
 use Rattle.order.specs.Bytes.{Bytes}

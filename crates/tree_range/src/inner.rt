@@ -13,7 +13,7 @@ use spots::{Next, Spot, next_spot, read_spot};
 use words::Offset;
 
 // Where the first pair in the range lies.
-#[derive(Drop)]
+#[derive(Clone, Copy)]
 pub enum Hit {
     At(Spot),
     End,

@@ -11,14 +11,14 @@ use tree_read::check::holds_index;
 use words::Offset;
 
 // A pair in the range: its key's length, and where its value lies in the arena. The key itself is in the caller's output.
-#[derive(Drop)]
+#[derive(Clone, Copy)]
 pub struct Seen {
     pub key: usize,
     pub place: Offset,
     pub value: usize,
 }
 
-#[derive(Drop)]
+#[derive(Clone, Copy)]
 pub enum Scan {
     Pair(Seen),
     End,

@@ -1,7 +1,7 @@
 // Where a scan begins, and whether the pair found there is before the end.
 ghost use Rattle.std.specs.Prelude.{◌≡◌, ◌<◌, ◌^◌};
 ghost use Rattle.layout.specs.Presumed.{Index};
-ghost use Rattle.model.specs.ScanLaws.{Closed};
+ghost use Rattle.model.specs.Scans.{Closed};
 ghost use Rattle.spots.specs.Spots.{SpotIn};
 ghost use Rattle.tree_range.specs.Scans.{Begins, ComparesTo, EndsBefore, slot_at};
 

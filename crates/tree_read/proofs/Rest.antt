@@ -7,7 +7,8 @@ use native.Mathlib.Numerals.{add-one}
 use native.Mathlib.Omega.{arith}
 use lib.ListN.{get_or, length}
 use Rattle.layout.specs.Buffers.{suffix_at}
-use Rattle.lists.specs.Part.{part, part-cons}
+use Rattle.lists.specs.Part.{part}
+use Rattle.lists.proofs.PartLaws.{part-cons}
 use Rattle.model.specs.Charge.{charge}
 use Rattle.model.specs.Place.{at}
 use Rattle.tree_read.specs.Check.{RunPairs, end_after, word_end, words_charge}

@@ -9,10 +9,12 @@ use Rattle.layout.specs.Buffers.{Buffers, low_at, low_word, pair_at, slot_words}
 use Rattle.layout.specs.Lays.{LaysLeaf}
 use Rattle.layout.specs.LaysParts.{WordInside, suffix-length}
 use Rattle.layout.specs.LaysWords.{region_in}
-use Rattle.layout.specs.Order.{InOrder, leaf_words, word_extent}
-use Rattle.layout.specs.OrderLaws.{order_top, end_of}
+use Rattle.lists.specs.Extents.{InOrder}
+use Rattle.layout.specs.Order.{leaf_words, word_extent}
+use Rattle.lists.proofs.ExtentLaws.{order_top}
+use Rattle.lists.specs.Extents.{end_of}
 use Rattle.lists.specs.All.{All}
-use Rattle.lists.specs.Part.{length-part}
+use Rattle.lists.proofs.PartLaws.{length-part}
 use Rattle.model.specs.Charge.{weight}
 use Rattle.model.specs.Good.{GoodLeaf, limits}
 use Rattle.model.specs.Leaves.{Node, node, prefix_length}

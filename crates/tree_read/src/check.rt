@@ -21,33 +21,33 @@ use words::{
     unpack_low_key, unpack_slot,
 };
 
-#[derive(Drop)]
+#[derive(Clone, Copy)]
 enum Low {
     Read(LowKey),
     Unsound,
 }
 
 // Where a leaf's last part ends, and its charge.
-#[derive(Drop)]
+#[derive(Clone, Copy)]
 pub struct Sum {
     pub end: usize,
     pub charge: usize,
 }
 
-#[derive(Drop)]
+#[derive(Clone, Copy)]
 enum Pass {
     Sound(Sum),
     Failed,
 }
 
-#[derive(Drop)]
+#[derive(Clone, Copy)]
 enum Next {
     Known(Upper),
     Unread,
 }
 
 // What the leaves so far add up to, and the low key of the leaf that comes next.
-#[derive(Drop)]
+#[derive(Clone, Copy)]
 pub struct State {
     pub low: LowKey,
     pub end: usize,
@@ -55,7 +55,7 @@ pub struct State {
     pub charge: usize,
 }
 
-#[derive(Drop)]
+#[derive(Clone, Copy)]
 enum Step {
     Went(State),
     Stopped,

@@ -11,13 +11,13 @@ use Rattle.layout.specs.Presumed.{Presumed}
 use Rattle.layout.specs.declared.Header.{Header}
 use Rattle.model.specs.Answers.{Answer, accepted, long_key, refused, remove_answer, short, size_of}
 use Rattle.model.specs.Answers as model
-use Rattle.model.specs.FitsLaws.{remove_fits}
+use Rattle.model.proofs.FitsLaws.{remove_fits}
 use Rattle.model.specs.Good.{limits}
-use Rattle.model.specs.GoodLaws.{remove_good}
+use Rattle.model.proofs.GoodLaws.{remove_good}
 use Rattle.model.specs.Leaves.{Node, pairs_of}
 use Rattle.model.specs.Map.{lookup}
 use Rattle.model.specs.Rules.{remove_rule}
-use Rattle.model.specs.TileLaws.{remove_tiles}
+use Rattle.model.proofs.TileLaws.{remove_tiles}
 use Rattle.model.specs.declared.Refusal.TheVariants.{LongKey, ShortOutput}
 use Rattle.order.specs.Bytes.{Bytes}
 use Rattle.tree_remove.specs.Outcomes.{RemoveBy, RemoveOutcome}

@@ -1,7 +1,7 @@
 -- L7 in two steps: the rule that merges takes the pair out as the rule that doesn't, and then merges the leaf where that left it empty and it has
 -- a right neighbour.
 -- Assumes nothing.
-use Rattle.model.specs.RuleEdits.{remove_edit}
+use Rattle.model.proofs.RuleEdits.{remove_edit}
 use Rattle.std.specs.Prelude.{◌+◌, ◌<◌, ◌≤◌, suc, zero, ℕ, false, true, List, [], ◌++◌, ◌∷◌, ◌≡◌, refl, drop, length, take}
 use Rattle.std.proofs.Common.{◌∙◌, ap, sym, arith, length-drop}
 use Rattle.layout.specs.UsedLaws.{length_same}
@@ -11,7 +11,7 @@ use Rattle.model.specs.LeafViews.{merges, removal, stays}
 use Rattle.model.specs.Leaves.{Node, owner, with_pairs}
 use Rattle.model.specs.Map.{Pair, pair, remove}
 use Rattle.model.specs.MapParts.{length-remove}
-use Rattle.model.specs.OwnerLaws.{one_owner}
+use Rattle.model.proofs.OwnerLaws.{one_owner}
 use Rattle.model.specs.Place.{at, place, place_key, place-lookup}
 use Rattle.model.specs.Rules.{is_last, merge_from, remove_here, remove_rule}
 use Rattle.order.specs.Bytes.{Bytes}

@@ -11,13 +11,14 @@ use Rattle.pair_edit.specs.PairEdits.{CanRemove}
 use Rattle.layout.specs.Lays.{Holds}
 use Rattle.layout.specs.Presumed.{Index, Inner, Presumed}
 use Rattle.layout.specs.declared.Header.{Header}
-use Rattle.lists.specs.Part.{put, put-nil}
+use Rattle.lists.specs.Part.{put}
+use Rattle.lists.proofs.PartLaws.{put-nil}
 use Rattle.model.specs.Answers.{Answer, accepted, refused, remove_answer}
 use Rattle.model.specs.Answers as model
 use Rattle.model.specs.Leaves.{Node, pairs_of}
 use Rattle.model.specs.Limits.{key_limit}
 use Rattle.model.specs.Map.{lookup}
-use Rattle.model.specs.PairLaws.{lookup-owned, remove_absent}
+use Rattle.model.proofs.PairLaws.{lookup-owned, remove_absent}
 use Rattle.model.specs.Rules.{remove_rule}
 use Rattle.model.specs.declared.Refusal.{Refusal}
 use Rattle.model.specs.declared.Refusal.TheVariants.{LongKey, ShortOutput}

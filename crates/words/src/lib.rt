@@ -16,7 +16,7 @@ pub struct SlotNo(pub usize);
 pub struct Offset(pub usize);
 
 // A pair: where its suffix starts, the value right behind, and the length of each.
-#[derive(Drop)]
+#[derive(Clone, Copy)]
 pub struct Slot {
     pub offset: Offset,
     pub suffix: usize,

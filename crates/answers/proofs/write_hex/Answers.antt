@@ -2,7 +2,7 @@
 -- Assumes nothing.
 use mathlib.Core.Path.{refl}
 use lib.ListN.{length-set}
-use Rattle.lists.specs.Fill.{fill_start}
+use Rattle.lists.proofs.FillLaws.{fill_start}
 use Rattle.lines.specs.HexLaws.{hex_length}
 use Rattle.answers.specs.AnswerLaws.{hex_turn, hex_done}
 use borrow.Author.Rules.{rules}

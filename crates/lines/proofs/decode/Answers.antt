@@ -1,7 +1,7 @@
 -- `decode` meets its contract.
 -- Assumes nothing.
 use lib.ListN.{length-set}
-use Rattle.lists.specs.Fill.{fill_start}
+use Rattle.lists.proofs.FillLaws.{fill_start}
 use Rattle.lines.specs.HexLaws.{decode_turn, decode_done, digit_read, value_small}
 use mathlib.Core.Path.{refl}
 use borrow.Author.Rules.{rules}

@@ -2,9 +2,10 @@ use Prim.Native.Nat.{ℕ, ◌+◌, ◌≤◌}
 use mathlib.Core.List.{List}
 use mathlib.Core.Path.{◌≡◌, sym}
 use lib.ListN.{length}
-use Rattle.lists.specs.Part.{part, put, put-part}
-use Rattle.lists.specs.Fill.{fill_start}
-use Rattle.lists.specs.Shift.{down_turn, down_done}
+use Rattle.lists.specs.Part.{part, put}
+use Rattle.lists.proofs.PartLaws.{put-part}
+use Rattle.lists.proofs.FillLaws.{fill_start}
+use Rattle.lists.proofs.Shift.{down_turn, down_done}
 use borrow.Author.Rules.{rules}
 use native.Mathlib.Omega.{arith}
 use Rattle.moves.proofs.bytes_down.Goals as goal

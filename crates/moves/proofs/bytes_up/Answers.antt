@@ -1,5 +1,5 @@
-use Rattle.lists.specs.Fill.{back_done}
-use Rattle.lists.specs.Shift.{up_start, up_turn}
+use Rattle.lists.proofs.FillLaws.{back_done}
+use Rattle.lists.proofs.Shift.{up_start, up_turn}
 use borrow.Author.Rules.{rules}
 use native.Mathlib.Omega.{arith}
 use Rattle.moves.proofs.bytes_up.Goals as goal

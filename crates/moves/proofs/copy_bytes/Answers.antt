@@ -1,5 +1,5 @@
 use mathlib.Core.Path.{refl}
-use Rattle.lists.specs.Fill.{fill_start, fill_step, fill_done}
+use Rattle.lists.proofs.FillLaws.{fill_start, fill_step, fill_done}
 use borrow.Author.Rules.{rules}
 use native.Mathlib.Omega.{arith}
 use Rattle.moves.proofs.copy_bytes.Goals as goal

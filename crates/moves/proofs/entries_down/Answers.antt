@@ -1,5 +1,5 @@
-use Rattle.lists.specs.Fill.{fill_start}
-use Rattle.lists.specs.Shift.{down_turn, down_done}
+use Rattle.lists.proofs.FillLaws.{fill_start}
+use Rattle.lists.proofs.Shift.{down_turn, down_done}
 use borrow.Author.Rules.{rules}
 use native.Mathlib.Omega.{arith}
 use Rattle.moves.proofs.entries_down.Goals as goal

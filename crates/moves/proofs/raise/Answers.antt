@@ -1,6 +1,6 @@
 use Prim.Native.Nat.{ℕ, ◌+◌}
-use Rattle.lists.specs.Fill.{fill_start}
-use Rattle.lists.specs.Shift.{each_read, each_turn, each_done}
+use Rattle.lists.proofs.FillLaws.{fill_start}
+use Rattle.lists.proofs.Shift.{each_read, each_turn, each_done}
 use borrow.Author.Rules.{rules}
 use native.Mathlib.Omega.{arith}
 use Rattle.moves.proofs.raise.Goals as goal

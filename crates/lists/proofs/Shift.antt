@@ -5,8 +5,10 @@ use Rattle.std.specs.Prelude.{◌≡◌, refl, List, map, ℕ, ◌+◌, ◌≤�
 use Rattle.std.proofs.Common.{sym, ap, ◌∙◌, arith}
 use Rattle.std.proofs.lemmas.List.{length-map}
 use Rattle.std.proofs.Math.ListN.{get_or-map}
-use Rattle.lists.specs.Part.{part, put, length-part, get_or-part}
-use Rattle.lists.specs.Fill.{Filling, fill_read, fill_step, fill_done, Backing, back_start, back_read, back_step}
+use Rattle.lists.specs.Part.{part, put}
+use Rattle.lists.proofs.PartLaws.{length-part, get_or-part}
+use Rattle.lists.specs.Fill.{Filling, Backing}
+use Rattle.lists.proofs.FillLaws.{fill_read, fill_step, fill_done, back_start, back_read, back_step}
 
 module _ {A : Type 0} (l : List A) (from n to : ℕ) where
   -- up, from the back

@@ -8,17 +8,18 @@ use Rattle.std.proofs.Common.{◌∙◌, subst, sym, arith, le-ltb, ne_eqb}
 use Rattle.std.proofs.Math.Path.{ap}
 use Rattle.std.proofs.Math.ListN.{drop, take}
 use Rattle.model.specs.Charge.{charge}
-use Rattle.model.specs.FitsLaws.{insert_fits}
+use Rattle.model.proofs.FitsLaws.{insert_fits}
 use Rattle.model.specs.Good.{Bounds, Fits, Tiles}
 use Rattle.model.specs.LeafViews.{full, settled, slack}
 use Rattle.model.specs.Leaves.{Node, low_of, node, owned, owner, pairs_of, with_pairs}
 use Rattle.model.specs.Map.{Pair, lookup, pair, put}
 use Rattle.model.specs.MapParts.{length-put}
-use Rattle.model.specs.OwnerLaws.{owned_at, owner_edit, tiles_first}
-use Rattle.model.specs.PairLaws.{insert_pairs, lookup-owned}
+use Rattle.model.proofs.OwnerLaws.{owned_at, owner_edit, tiles_first}
+use Rattle.model.proofs.PairLaws.{insert_pairs, lookup-owned}
 use Rattle.model.specs.Place.{gap, gap_lookup, place, PutBy, put_by}
 use Rattle.model.specs.Rules.{insert_here, insert_rule, lowest_free, remove_here, remove_rule}
-use Rattle.model.specs.SizeLaws.{cuts, cutting, insert_charge, insert_cut, uncut}
+use Rattle.model.specs.LeafCuts.{cuts, insert_cut, uncut}
+use Rattle.model.proofs.SizeLaws.{cutting, insert_charge}
 use Rattle.order.specs.Bytes.{Bytes}
 
 -- the rule at the leaf that owns the key

@@ -11,10 +11,11 @@ use Rattle.model.specs.LeafViews.{on, side, stay}
 use Rattle.model.specs.Leaves.{Node, owned}
 use Rattle.model.specs.Map.{lookup, put}
 use Rattle.model.specs.MapParts.{length-put}
-use Rattle.model.specs.OwnerLaws.{tiles_first}
+use Rattle.model.proofs.OwnerLaws.{tiles_first}
 use Rattle.model.specs.Rules.{insert_rule, merge_from}
-use Rattle.model.specs.SizeLaws.{uncut, cuts, cutting, insert_charge, insert_cut}
-use Rattle.model.specs.StoredLaws.{charge_ahead, merge_stored_behind, regained, stored_charge}
+use Rattle.model.specs.LeafCuts.{uncut, cuts, insert_cut}
+use Rattle.model.proofs.SizeLaws.{cutting, insert_charge}
+use Rattle.model.proofs.StoredLaws.{charge_ahead, merge_stored_behind, regained, stored_charge}
 use Rattle.order.specs.Bytes.{Bytes}
 
 -- the owner has room for one pair more (L3)

@@ -1,28 +1,19 @@
 -- Demand 3's split rule: an insert that makes F pairs cuts the owner's pairs, in order, into two nonempty halves at a string above every left
 -- key and above no right key, and no shorter byte string at all is. An insert that doesn't make F pairs adds no leaf.
 -- Assumes nothing.
-use Rattle.std.specs.Prelude.{◌<◌, ◌≤◌, suc, ℕ, ◌≡◌, refl, length}
-use mathlib.Core.List.{List, [], ◌++◌, ◌∷◌}
+use Rattle.std.specs.Prelude.{◌≤◌, suc, ℕ, ◌≡◌, refl, length}
+use mathlib.Core.List.{List, [], ◌∷◌}
 use Rattle.std.proofs.Common.{ap, arith, take-append-drop}
 use Rattle.std.proofs.Math.ListN.{drop, take}
-use Rattle.lists.specs.All.{All}
 use Rattle.model.specs.CutLaws.{Cut, cut_below, cut_from, cut_left, cut_right, cut_shortest, offset_cut}
 use Rattle.model.specs.Good.{Bounds, Tiled, Tiles}
 use Rattle.model.specs.LeafViews.{fails, full, holds, offset_of, settled, slack, truth}
-use Rattle.model.specs.Leaves.{Node, at_owner, low_of, node, owned, reaches, with_pairs}
-use Rattle.model.specs.Map.{Below, From, Pair, Rising, put}
+use Rattle.model.specs.Leaves.{Node, at_owner, low_of, owned, reaches, with_pairs}
+use Rattle.model.specs.Map.{Pair, Rising, put}
 use Rattle.model.specs.MapLaws.{rising_put}
 use Rattle.model.specs.Rules.{cut_key, halves, insert_here, insert_rule, lowest_free}
 use Rattle.order.specs.Bytes.{Bytes}
-
--- m is cut into l and r at the string s
-pub record Divided (m l r : List Pair) (s : Bytes) : Type 0 where
-  pub whole : l ++ r ≡ m
-  pub left : 0 < length l
-  pub right : 0 < length r
-  pub above : All (Below s) l
-  pub upto : All (From s) r
-  pub shortest : (x : Bytes) → All (Below x) l → All (From x) r → length s ≤ length x
+use Rattle.model.specs.SplitOf.{Divided, SplitOf}
 
 pub divided : (at : ℕ) (m : List Pair) → Cut at m → Rising m → Divided m (take at m) (drop at m) (cut_key at m)
 divided at m c r = record {
@@ -33,19 +24,6 @@ divided at m c r = record {
   upto = cut_from at m r;
   shortest = λ x a b. cut_shortest x c r a b;
 }
-
--- the owner, with the new pair put, stands as a left leaf and a right one with the new number; the other leaves are as they were
-pub record SplitOf (k v : Bytes) (free : ℕ) (ns after : List Node) : Type 0 where
-  pub ahead : List Node
-  pub leaf : Node
-  pub behind : List Node
-  pub separator : Bytes
-  pub l : List Pair
-  pub r : List Pair
-  pub was : ns ≡ ahead ++ (leaf ∷ behind)
-  pub owns : owned k ns ≡ leaf.pairs
-  pub now : after ≡ ahead ++ (with_pairs leaf l ∷ node free separator r ∷ behind)
-  pub cut : Divided (put k v leaf.pairs) l r separator
 
 module _ (B : Bounds) (three : 3 ≤ B.fanout) (free : ℕ) (k v : Bytes) where
   split_here : (n : Node) (ns : List Node) → owned k (n ∷ ns) ≡ n.pairs → Rising n.pairs → length (put k v n.pairs) ≡ B.fanout

@@ -5,7 +5,7 @@ use Rattle.std.specs.Prelude.{ℕ, false, true, drop}
 use Rattle.std.proofs.Math.Bool.{and-false}
 use Rattle.std.proofs.Common.{true≢false, ◌∙◌, ap, sym, arith}
 use mathlib.Core.List.{List, [], ◌++◌, ◌∷◌}
-use Rattle.std.proofs.Math.Option.{Option, none, some}
+use Rattle.std.proofs.Math.Option.{none, some}
 use Rattle.std.proofs.Math.Path.{◌≡◌, refl}
 use Rattle.lists.specs.All.{All, all_mono}
 use Rattle.model.specs.Answers.{both_keyed, key_written, range_answer, range_found}
@@ -19,15 +19,7 @@ use Rattle.model.specs.declared.Range.{Range}
 use Rattle.order.specs.Bytes.{Bytes, ◌≺◌, ◌≼◌}
 use Rattle.lists.specs.Exact.{Exact, exact_no, exact_yes}
 use Rattle.order.specs.OrderLaws.{after, before, below_asym, below_upto_trans, cmp_after, cmp_before, cmp_equal, cmp_refl, equal, tri, upto_below_trans, upto_of_eq}
-
--- a pair out of the range
-abbrev pub Out : Range → (start end : Bytes) → Pair → Type 0
-Out r s e p = in_range r s e p.key ≡ false
-
--- the first of two answers that is a pair
-abbrev pub or_else : Option Pair → Option Pair → Option Pair
-or_else none o = o
-or_else (some p) o = some p
+use Rattle.model.specs.Scans.{Out, or_else, Closed}
 
 module _ (r : Range) (s e : Bytes) where
   -- by parts
@@ -77,12 +69,6 @@ module _ (r : Range) (s e : Bytes) where
   -- by leaves: a leaf without a pair in the range is passed over
   pub first_leaves : (n : Node) (ns : List Node) → first_in r s e (pairs_of (n ∷ ns)) ≡ or_else (first_in r s e n.pairs) (first_in r s e (pairs_of ns))
   first_leaves n ns = first_append n.pairs (pairs_of ns)
-
--- keys below a start that has a key are out
-abbrev pub Closed : Bound → Type 0
-Closed Included = Unit {0}
-Closed Excluded = Unit {0}
-Closed Open = ⊥
 
 pub before_start : (b : Bound) (s k : Bytes) → Closed b → k ≺ s → past_start b s k ≡ false
 before_start Included s k c h = rw (cmp_after h)

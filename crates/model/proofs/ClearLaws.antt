@@ -3,25 +3,17 @@
 -- Assumes nothing.
 use Rattle.std.specs.Prelude.{ℕ, Bool, true, List, [], ◌∷◌, ◌≡◌, refl, length}
 use Rattle.std.proofs.Common.{append-nil, ap, ◌∙◌, sym, arith, length-append}
-use Rattle.model.specs.FilledLaws.{remove_filled}
+use Rattle.model.proofs.FilledLaws.{remove_filled}
 use Rattle.model.specs.Good.{Bounds, Filled, Tiles}
 use Rattle.model.specs.LeafViews.{fails, holds, merges, removal, stays, truth}
 use Rattle.model.specs.Leaves.{Node, at_owner, node, pairs_of, reaches, with_pairs}
 use Rattle.model.specs.Map.{Pair, remove}
-use Rattle.model.specs.PairLaws.{remove_pairs}
+use Rattle.model.proofs.PairLaws.{remove_pairs}
 use Rattle.model.specs.Rules.{clear_rule, merge_from, remove_rule}
-use Rattle.model.specs.TileLaws.{remove_tiles}
+use Rattle.model.proofs.TileLaws.{remove_tiles}
 use Rattle.order.specs.Bytes.{Bytes}
 use Rattle.order.specs.OrderLaws.{cmp_refl}
-
--- every pair's key removed in turn, in merge mode
-unfoldable pub remove_each : List Pair → List Node → List Node
-remove_each [] ns = ns
-remove_each (p ∷ l) ns = remove_each l (remove_rule true p.key ns)
-
-abbrev pub first_number : List Node → ℕ
-first_number [] = 0
-first_number (n ∷ ns) = n.number
+use Rattle.model.specs.ClearEach.{remove_each, first_number}
 
 remove_first_number : (merging : Bool) (k : Bytes) (ns : List Node) → first_number (remove_rule merging k ns) ≡ first_number ns
 unfolding remove_rule at_owner merge_from

@@ -3,18 +3,11 @@
 -- Assumes nothing.
 use Rattle.std.specs.Prelude.{◌+◌, ◌≤◌, ℕ, List, [], ◌++◌, ◌∷◌, ◌≡◌, length}
 use Rattle.std.proofs.Common.{arith}
-use Rattle.layout.specs.Order.{Extent, InOrder}
+use Rattle.lists.specs.Extents.{Extent, InOrder}
 use Rattle.lists.specs.All.{All, all_append, all_mono}
-use Rattle.lists.specs.Part.{part, part-put_after, part-put_before, put}
-
--- where the last part ends
-abbrev pub end_of : ℕ → List Extent → ℕ
-end_of a [] = a
-end_of a (e ∷ es) = end_of (e.at + e.size) es
-
-abbrev pub total : List Extent → ℕ
-total [] = 0
-total (e ∷ es) = e.size + total es
+use Rattle.lists.specs.Part.{part, put}
+use Rattle.lists.proofs.PartLaws.{part-put_after, part-put_before}
+use Rattle.lists.specs.Extents.{end_of, total, Apart}
 
 pub order_total : (a : ℕ) (es : List Extent) (top : ℕ) → InOrder a es top → a + total es ≤ top
 order_total a [] top h = omega arith
@@ -56,11 +49,6 @@ order_before a (e ∷ es) top h = (order_top (e.at + e.size) es top h.1, order_b
 pub order_after : (a : ℕ) (es : List Extent) (top : ℕ) → InOrder a es top → All (λ e. a ≤ e.at) es
 order_after a [] top h = tt
 order_after a (e ∷ es) top h = (h.0, all_mono es (λ q k. omega (arith, k, h.0)) (order_after (e.at + e.size) es top h.1))
-
--- none overlaps a later one
-abbrev pub Apart : List Extent → Type 0
-Apart [] = Unit {0}
-Apart (e ∷ es) = All (λ f. e.at + e.size ≤ f.at) es × Apart es
 
 pub order_apart : (a : ℕ) (es : List Extent) (top : ℕ) → InOrder a es top → Apart es
 order_apart a [] top h = tt

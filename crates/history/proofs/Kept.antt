@@ -16,7 +16,7 @@ use Rattle.kernel.specs.Refused.{absent_kept, insert_refused, remove_refused}
 use Rattle.layout.specs.Examples.{header}
 use Rattle.layout.specs.Lays.{W}
 use Rattle.layout.specs.declared.Header.{Header}
-use Rattle.lists.specs.Part.{length-put}
+use Rattle.lists.proofs.PartLaws.{length-put}
 use Rattle.model.specs.Answers.{Answer, accepted, create_answer, insert_answer, meets_sizes, refused, remove_answer}
 use Rattle.model.specs.Answers as model
 use Rattle.model.specs.Leaves.{Node, pairs_of}

@@ -12,22 +12,7 @@ use Rattle.model.specs.MapParts.{cost, tally, weight-append, weight-put, weight-
 use Rattle.model.specs.Rules.{cut_key, halves, insert_here, insert_rule, is_last, lowest_free, merge_from, remove_here, remove_rule, split_if_full}
 use Rattle.order.specs.Bytes.{Bytes}
 use Rattle.order.specs.OrderLaws.{cmp_equal}
-
--- the low key of the leaf that an insert makes, if it makes one
-unfoldable pub insert_cut : (fanout : ℕ) → Bytes → Bytes → List Node → Option Bytes
-insert_cut fanout k v [] = none
-insert_cut fanout k v (n ∷ ns) =
-    cond (reaches k ns) (insert_cut fanout k v ns) (new_low fanout (with_pairs n (put k v n.pairs)) (low_of ns))
-
--- the low key of the leaf that a remove frees, if it frees one
-unfoldable pub remove_cut : (merging : Bool) → Bytes → List Node → Option Bytes
-remove_cut merging k [] = none
-remove_cut merging k (n ∷ ns) = cond (reaches k ns) (remove_cut merging k ns) (cond (merging && is_last k n.pairs) (low_of ns) none)
-
--- an insert makes a leaf exactly where it makes F pairs
-pub data Cutting (F : ℕ) (k v : Bytes) (ns : List Node) : Type 0 where
-  cuts : length (put k v (owned k ns)) ≡ F → (s : Bytes) → insert_cut F k v ns ≡ some s → Cutting F k v ns
-  uncut : (length (put k v (owned k ns)) ≡ F → ⊥) → insert_cut F k v ns ≡ none → Cutting F k v ns
+use Rattle.model.specs.LeafCuts.{insert_cut, remove_cut, Cutting, cuts, uncut}
 
 cutting_here : (F : ℕ) (k v : Bytes) (n : Node) (ns : List Node) → reaches k ns ≡ false → Cutting F k v (n ∷ ns)
 unfolding insert_cut owned

@@ -15,7 +15,7 @@ use Rattle.model.specs.Leaves.{Node, Spans, Under, at_owner, low_of, node, with_
 use Rattle.model.specs.Map.{Below, From, pair, put, remove}
 use Rattle.model.specs.MapLaws.{all_put, all_remove, rising_drop, rising_put, rising_remove, rising_take}
 use Rattle.model.specs.MapParts.{length-put, length-remove}
-use Rattle.model.specs.PairLaws.{from_low}
+use Rattle.model.proofs.PairLaws.{from_low}
 use Rattle.model.specs.Rules.{cut_key, first_key, fresh, halves, insert_here, insert_rule, lowest_free, merge_from, remove_here, remove_rule, split_if_full}
 use Rattle.order.specs.Bytes.{Bytes, ◌≺◌, ◌≼◌}
 use Rattle.order.specs.OrderLaws.{below_asym, below_trans, nil_upto, upto_below_trans, upto_trans}

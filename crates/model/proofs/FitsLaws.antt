@@ -7,9 +7,10 @@ use Rattle.model.specs.Charge.{charge, weight}
 use Rattle.model.specs.Good.{Fits}
 use Rattle.model.specs.Leaves.{Node, at_owner, owned}
 use Rattle.model.specs.Map.{put}
-use Rattle.model.specs.Numbers.{insert_distinct, insert_numbers, lowest_below, remove_distinct, remove_numbers}
+use Rattle.model.proofs.Numbers.{insert_distinct, insert_numbers, lowest_below, remove_distinct, remove_numbers}
 use Rattle.model.specs.Rules.{fresh, insert_rule, remove_rule}
-use Rattle.model.specs.SizeLaws.{uncut, cuts, cutting, insert_count, remove-charge, remove_count}
+use Rattle.model.specs.LeafCuts.{uncut, cuts}
+use Rattle.model.proofs.SizeLaws.{cutting, insert_count, remove-charge, remove_count}
 use Rattle.order.specs.Bytes.{Bytes}
 
 pub fresh_fits : (pool arena : ℕ) → 1 ≤ pool → Fits pool arena fresh

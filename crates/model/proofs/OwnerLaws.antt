@@ -8,9 +8,10 @@ use Rattle.std.proofs.Math.Path.{refl}
 use native.Mathlib.Omega.{arith}
 use Rattle.model.specs.Good.{Bounds, GoodLeaf, Tiled, Tiles}
 use Rattle.model.specs.LeafViews.{on, side, stay}
-use Rattle.model.specs.Leaves.{node, Node, Spans, Under, at_owner, low_of, owned, owner}
+use Rattle.model.specs.Leaves.{node, Node, Under, at_owner, low_of, owned, owner}
 use Rattle.order.specs.Bytes.{Bytes, ◌≼◌}
 use Rattle.order.specs.OrderLaws.{below_asym, below_irrefl, nil_upto, upto_trans}
+use Rattle.model.specs.SpansAt.{SpansAt}
 
 module _ (k : Bytes) (d : Node) where
   -- the rule at the owner, as an edit at a place
@@ -98,11 +99,6 @@ tiles_first P f [] t = absurd (let z : ◌≡◌ {A = ℕ} 0 1 = cc t.starts in 
 tiles_first P f (n ∷ ns) t =
     let e : n.low ≡ [] = cc t.starts in
     f n ns (λ k. rw e nil_upto) t.tiled
-
--- the leaf at place j spans k
-pub record SpansAt (ns : List Node) (k : Bytes) (j : ℕ) : Type 0 where
-  pub within : j < length ns
-  pub spans : Spans (get_or ns j (node 0 [] [])).low (low_of (drop (suc j) ns)) k
 
 -- every key has exactly one owner: demand 3's "without gap or overlap"
 

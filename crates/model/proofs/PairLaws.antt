@@ -14,7 +14,7 @@ use Rattle.model.specs.Leaves.{reaches, Node, Under, at_owner, low_of, owned, pa
 use Rattle.model.specs.Map.{put, Above, Below, From, Pair, Rising, lookup, remove}
 use Rattle.model.specs.MapLaws.{rising_append}
 use Rattle.model.specs.MapParts.{lookup_left, lookup_right, put_left, put_right, remove_left, remove_right}
-use Rattle.model.specs.OwnerLaws.{tiles_first}
+use Rattle.model.proofs.OwnerLaws.{tiles_first}
 use Rattle.model.specs.Rules.{is_last, halves, insert_here, insert_rule, lowest_free, merge_from, remove_here, remove_rule, split_if_full}
 use Rattle.order.specs.Bytes.{Bytes, ◌≼◌}
 use Rattle.order.specs.OrderLaws.{after, before, cmp_after, cmp_before, equal, tri, below_asym, below_upto_trans, cmp_equal, upto_trans}

@@ -2,13 +2,13 @@
 -- Assumes nothing.
 use Rattle.std.specs.Prelude.{◌≤◌, ℕ, false, true, List, ◌≡◌}
 use Rattle.model.specs.Answers.{no_leaf, no_room}
-use Rattle.model.specs.FilledLaws.{insert_filled, remove_filled}
-use Rattle.model.specs.FitsLaws.{fresh_fits, insert_fits, remove_fits}
+use Rattle.model.proofs.FilledLaws.{insert_filled, remove_filled}
+use Rattle.model.proofs.FitsLaws.{fresh_fits, insert_fits, remove_fits}
 use Rattle.model.specs.Good.{Bounds, Good, Within}
 use Rattle.model.specs.Leaves.{Node}
 use Rattle.model.specs.Map.{pair}
 use Rattle.model.specs.Rules.{clear_rule, fresh, insert_rule, remove_rule}
-use Rattle.model.specs.TileLaws.{fresh_tiles, insert_tiles, remove_tiles}
+use Rattle.model.proofs.TileLaws.{fresh_tiles, insert_tiles, remove_tiles}
 use Rattle.order.specs.Bytes.{Bytes}
 
 pub fresh_good : (B : Bounds) (pool arena : ℕ) → 3 ≤ B.fanout → 1 ≤ pool → Good B pool arena fresh

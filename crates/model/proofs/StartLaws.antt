@@ -1,9 +1,8 @@
 -- A scan by its two ends: the pairs from the first past the start on, and whether the first of them is before the end. Where they begin:
 -- in the leaf that owns the start, at the start's place there.
 -- Assumes nothing.
-use Rattle.std.specs.Prelude.{◌<◌, ◌≤◌, suc, zero, ℕ, cond, false, true, ◌≡◌, drop, get_or, length}
+use Rattle.std.specs.Prelude.{◌<◌, ◌≤◌, suc, zero, ℕ, false, true, ◌≡◌, drop, get_or, length}
 use mathlib.Core.List.{List, [], ◌++◌, ◌∷◌}
-use Rattle.std.proofs.Math.Option.{Option, none, some}
 use Rattle.std.proofs.Common.{◌∙◌, ap, sym, arith, drop-cons}
 use Rattle.std.proofs.Math.Path.{refl}
 use Rattle.lists.specs.All.{All, all_mono}
@@ -11,25 +10,17 @@ use Rattle.model.specs.Good.{Bounds, Tiled, Tiles}
 use Rattle.model.specs.LeafViews.{fails, holds, on, side, stay, truth}
 use Rattle.model.specs.Leaves.{Node, node, owner, pairs_of}
 use Rattle.model.specs.Map.{Above, Below, Pair, Rising, before_end, first_in, past_start}
-use Rattle.model.specs.OwnerLaws.{tiles_first}
-use Rattle.model.specs.PairLaws.{above_rest, below_next}
+use Rattle.model.proofs.OwnerLaws.{tiles_first}
+use Rattle.model.proofs.PairLaws.{above_rest, below_next}
 use Rattle.model.specs.Place.{Place, at, gap, next, place}
-use Rattle.model.specs.ScanLaws.{Closed, before_start, first_past}
+use Rattle.model.specs.Scans.{Closed}
+use Rattle.model.proofs.ScanLaws.{before_start, first_past}
 use Rattle.model.specs.declared.Bound.{Bound}
 use Rattle.model.specs.declared.Bound.TheVariants.{Excluded, Included, Open}
 use Rattle.model.specs.declared.Range.{Range}
 use Rattle.order.specs.Bytes.{Bytes, ◌≺◌}
 use Rattle.order.specs.OrderLaws.{after, before, cmp_after, cmp_before, cmp_equal, equal, tri}
-
--- the pairs from the first past the start on
-unfoldable pub from_start : Bound → Bytes → List Pair → List Pair
-from_start b s [] = []
-from_start b s (p ∷ m) = cond (past_start b s p.key) (p ∷ m) (from_start b s m)
-
--- the first of some pairs, if it is before the end
-abbrev pub first_before : Bound → Bytes → List Pair → Option Pair
-first_before b e [] = none
-first_before b e (p ∷ m) = cond (before_end b e p.key) (some p) none
+use Rattle.model.specs.Start.{from_start, first_before, slot_from, rest_of}
 
 pub first_from : (r : Range) (s e : Bytes) (m : List Pair) → Rising m → first_in r s e m ≡ first_before r.end e (from_start r.start s m)
 unfolding first_in from_start
@@ -85,14 +76,6 @@ all_short b s m c a = all_mono m (λ p h. before_start b s p.key c h) a
 
 -- in a leaf: at the start's place
 
-abbrev pub slot_from : Bound → Place → ℕ
-slot_from Included (at i) = i
-slot_from Excluded (at i) = suc i
-slot_from Open (at i) = 0
-slot_from Included (gap i) = i
-slot_from Excluded (gap i) = i
-slot_from Open (gap i) = 0
-
 module _ (s : Bytes) where
   from_next : (b : Bound) (p : Pair) (m : List Pair) (x : Place) → Closed b → from_start b s m ≡ drop (slot_from b x) m → from_start b s m ≡ drop (slot_from b (next x)) (p ∷ m)
   from_next Included p m (at i) c e = e
@@ -126,10 +109,6 @@ module _ (s : Bytes) where
       ]
 
 -- in the leaf list: from the owner on
-
--- the pairs from the i-th of the j-th leaf on
-abbrev pub rest_of : List Node → (j i : ℕ) → List Pair
-rest_of ns j i = drop i (get_or ns j (node 0 [] [])).pairs ++ pairs_of (drop (suc j) ns)
 
 from_owner : (B : Bounds) (b : Bound) (s : Bytes) → Closed b → (n : Node) (ns : List Node) → Tiled B (n ∷ ns)
     → from_start b s (pairs_of (n ∷ ns)) ≡ from_start b s (get_or (n ∷ ns) (owner s (n ∷ ns)) (node 0 [] [])).pairs ++ pairs_of (drop (suc (owner s (n ∷ ns))) (n ∷ ns))

@@ -8,30 +8,21 @@ use Rattle.std.proofs.lemmas.Bool.{lt-leb}
 use Rattle.lists.specs.All.{All}
 use Rattle.model.specs.Answers.{long_key, long_value, short, size_of, Changed, accepted, insert_answer, refuse_if, refused, no_leaf, no_room}
 use Rattle.model.specs.Charge.{charge, weight}
-use Rattle.model.specs.FilledLaws.{insert_filled, leaves_pairs, remove_filled}
+use Rattle.model.proofs.FilledLaws.{insert_filled, leaves_pairs, remove_filled}
 use Rattle.model.specs.Good.{Bounds, Filled, Tiled, Tiles, Within}
 use Rattle.model.specs.Leaves.{Node, owned, pairs_of}
 use Rattle.model.specs.Map.{lookup, Pair, put}
-use Rattle.model.specs.OwnerLaws.{tiles_first}
-use Rattle.model.specs.PairLaws.{insert_pairs}
+use Rattle.model.proofs.OwnerLaws.{tiles_first}
+use Rattle.model.proofs.PairLaws.{insert_pairs}
 use Rattle.model.specs.Place.{at}
-use Rattle.model.specs.Rules.{clear_rule, fresh, insert_rule, remove_rule}
-use Rattle.model.specs.SizeLaws.{cuts, cutting, insert_count, uncut}
-use Rattle.model.specs.TileLaws.{fresh_tiles, insert_tiles, remove_tiles}
+use Rattle.model.specs.Rules.{insert_rule}
+use Rattle.model.specs.LeafCuts.{cuts, uncut}
+use Rattle.model.proofs.SizeLaws.{cutting, insert_count}
+use Rattle.model.proofs.TileLaws.{fresh_tiles, insert_tiles, remove_tiles}
 use Rattle.model.specs.declared.Refusal.{Refusal}
 use Rattle.model.specs.declared.Refusal.TheVariants.{LongKey, LongValue, NoLeaf, NoRoom, ShortOutput}
 use Rattle.order.specs.Bytes.{Bytes}
-
-abbrev pub bounds : (fanout kmost vmost : ℕ) → Bounds
-bounds fanout kmost vmost = record { fanout = fanout; key_most = kmost; value_most = vmost }
-
--- the leaf lists that calls make from a fresh one
-pub data Reached (fanout kmost vmost : ℕ) : List Node → Type 0 where
-  created : Reached fanout kmost vmost fresh
-  inserted : {ns : List Node} (k v : Bytes) → length k ≤ kmost → length v ≤ vmost → Reached fanout kmost vmost ns
-      → Reached fanout kmost vmost (insert_rule fanout k v ns)
-  removed : {ns : List Node} (k : Bytes) → Reached fanout kmost vmost ns → Reached fanout kmost vmost (remove_rule true k ns)
-  cleared : {ns : List Node} → Reached fanout kmost vmost ns → Reached fanout kmost vmost (clear_rule ns)
+use Rattle.model.specs.Reached.{bounds, Reached, created, inserted, removed, cleared}
 
 module _ (F kmost vmost : ℕ) (three : 3 ≤ F) where
   pub reached_tiles : {ns : List Node} → Reached F kmost vmost ns → Tiles (bounds F kmost vmost) ns

@@ -15,6 +15,7 @@ use Rattle.model.specs.Place.{at, Place, gap, next, place}
 use Rattle.model.specs.Rules.{cut_key, halves}
 use Rattle.order.specs.Bytes.{◌≼◌, Bytes, ◌≺◌}
 use Rattle.order.specs.OrderLaws.{after, before, cmp_after, cmp_before, cmp_equal, equal, tri}
+use Rattle.model.specs.StoredCut.{put_here, cut_stored}
 
 -- what holds of all pairs after a put holds of the pair that was put
 put_holds : (P : Pair → Type 0) (k v : Bytes) (m : List Pair) → All P (put k v m) → P (pair k v)
@@ -99,14 +100,6 @@ module _ (k v : Bytes) (m : List Pair) (i at : ℕ) (e : place k m ≡ gap i) (r
   split_right h =
       let t = put_cut_right k v m i at e h in
       (t.0, (t.1, put_holds (From (cut_key at (put k v m))) k v (drop at m) (rw t.1 at (cut_from at (put k v m) (rising_put k v m r)))))
-
--- the new pair put into its owner, without a split
-abbrev pub put_here : Bytes → Bytes → Node → List Node → List Node
-put_here k v n ns = with_pairs n (put k v n.pairs) ∷ ns
-
--- the stored pairs cut in two, at a place that leaves the new pair room in its half
-abbrev pub cut_stored : (free : ℕ) → Bytes → (a : ℕ) → Node → List Node
-cut_stored free s a n = with_pairs n (take a n.pairs) ∷ node free s (drop a n.pairs) ∷ []
 
 module _ (k v : Bytes) (n : Node) (i at free : ℕ) (e : place k n.pairs ≡ gap i) (r : Rising n.pairs) (c : Cut at (put k v n.pairs)) where
   pub split_then_insert : halves free at (with_pairs n (put k v n.pairs))

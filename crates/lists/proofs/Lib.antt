@@ -1,0 +1,4 @@
+pub mod ExtentLaws
+pub mod PartLaws
+pub mod FillLaws
+pub mod Shift
