@@ -1,4 +1,6 @@
 // The answers of the script program, written to a lent output from a place on. Each function gives the place behind what it wrote.
+#![tactic(auto)]
+
 ghost use Rattle.std.specs.Prelude.{[], ◌∷◌, ◌/◌, ◌%◌, ◌<◌, ◌≡◌};
 ghost use Rattle.lines.specs.Grammar.{Number, ◌␣◌, bytes_text, digit_of, hex_of, number_text};
 ghost use Rattle.answers.specs.Answers.{Room, Wrote, answered, counts_text, lined};

@@ -1,4 +1,6 @@
 // One part of the arena slid between its two neighbours: the leaf list stays.
+#![tactic(auto)]
+
 ghost use Rattle.arena.specs.Slides.{CanSlidePair, SlidPair, CanSlideLow, SlidLow};
 
 use moves::move_bytes;

@@ -1,4 +1,6 @@
 // What `insert` and `remove` hand back, and the old value written to the lent output.
+#![tactic(auto)]
+
 ghost use Rattle.changes.specs.Outcomes.{CanWriteOld, WroteOld};
 
 use layout::Header;

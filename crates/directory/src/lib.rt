@@ -1,4 +1,6 @@
 // A directory word put in or taken out, with the slot words of its leaf: a leaf cut in two, and a leaf that takes over the next one's words.
+#![tactic(auto)]
+
 ghost use Rattle.directory.specs.Cuts.{CanCut, CutLeaf};
 ghost use Rattle.directory.specs.Takes.{CanTakeOver, TakenOver};
 

@@ -1,5 +1,7 @@
 // The calls for Rust and C: numbers, slices and structs of numbers. A slice is two arguments, its pointer and its length. The header
 // comes and goes by value where the end of a name says so; the changing calls of module `in_place` take it lent, as a pointer.
+#![tactic(auto)]
+
 ghost use Rattle.std.specs.Prelude.{◌≡◌};
 ghost use Rattle.lists.specs.Exact.{Exact};
 ghost use Rattle.layout.specs.Lays.{W};

@@ -1,4 +1,6 @@
 // Lines out of pieces of input: a line's bytes are gathered in a lent buffer, as many as it has room for.
+#![tactic(auto)]
+
 ghost use Rattle.std.specs.Prelude.{◌≤◌, length};
 ghost use Rattle.feed.specs.Feeds.{Ends, Gathers, Holds};
 

@@ -1,5 +1,7 @@
 // What an insert will do, decided before anything is written: a refusal of document 01's table, or a plan of slot numbers and lengths.
 // F pairs are never stored, so a split is planned on the leaf's pairs with the new one at its place.
+#![tactic(auto)]
+
 ghost use Rattle.std.specs.Prelude.{◌≡◌, List, ◌+◌, ◌^◌, ◌≤◌, ◌<◌, suc, ℕ};
 ghost use Rattle.layout.specs.Presumed.{Index, Inner};
 ghost use Rattle.layout.specs.Pieces.{pair_in};

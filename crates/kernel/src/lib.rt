@@ -1,5 +1,7 @@
 // The changing calls with the header lent and changed in place, as the kernel holds it. Each is thin: it copies the header out, makes the call
 // that takes it by value, and stores the header that it hands back.
+#![tactic(auto)]
+
 ghost use Rattle.std.specs.Prelude.{◌≡◌};
 ghost use Rattle.changes.specs.Outcomes.{lent};
 ghost use Rattle.tree_create.specs.Outcomes.{ClearOutcome};

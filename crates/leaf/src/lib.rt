@@ -1,5 +1,7 @@
 // The leaf's own type: its constructor and document 01's limits on keys, values and fanout. Its upper key and prefix length. What
 // the search in its slots answers.
+#![tactic(auto)]
+
 ghost use Rattle.std.specs.Prelude.{◌<◌, ◌≤◌};
 ghost use Rattle.lists.specs.Exact.{Exact};
 ghost use Rattle.model.specs.Limits.{key_limit, value_limit, fanout_least, fanout_limit};

@@ -1,4 +1,6 @@
 // The leaf's changing part, by leaf.rs's names.
+#![tactic(auto)]
+
 ghost use Rattle.leaf_edit.specs.Shorten.{CanShorten, ShortenedKeys};
 
 use leaf::{Upper, prefix_length};

@@ -1,4 +1,6 @@
 // The lines of the script program: what a line says.
+#![tactic(auto)]
+
 ghost use Rattle.std.specs.Prelude.{◌≡◌, ℕ, ◌+◌, ◌/◌, ◌≤◌, ◌<◌, length, get_or};
 ghost use Rattle.lists.specs.Exact.{Exact};
 ghost use Rattle.order.specs.Bytes.{Bytes};

@@ -1,4 +1,6 @@
 // L7 on an index: any empty leaf that has a right neighbour takes its pairs and its upper key; the neighbour is freed.
+#![tactic(auto)]
+
 ghost use Rattle.std.specs.Prelude.{◌<◌, suc, ◌≡◌};
 ghost use Rattle.layout.specs.Presumed.{Index, Inner};
 ghost use Rattle.merge.specs.Behind.{CanRoomBehind, RoomBehind, taken_prefix};

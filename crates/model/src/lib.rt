@@ -1,4 +1,6 @@
 // The types of document 01 that the rules speak of: the kinds of a range's bounds, and the refusals. The rules are in specs/.
+#![tactic(auto)]
+
 #[derive(Clone, Copy)]
 pub enum Bound {
     Included,

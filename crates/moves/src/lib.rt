@@ -1,5 +1,7 @@
 // Elements moved inside one lent buffer: bytes of the arena, words of the slot buffer (u64), entries of the directory (u32); bytes copied into
 // a part of one, and a number added to a range of words. Each contract gives the whole buffer at exit.
+#![tactic(auto)]
+
 ghost use Rattle.std.specs.Prelude.{◌≡◌, map, ℕ, ◌+◌, ◌^◌, ◌≤◌, ◌<◌, length, get_or};
 ghost use Rattle.lists.specs.Part.{part, put};
 

@@ -1,5 +1,7 @@
 // The lowest pool number that no leaf has. One pass over the directory marks the numbers in use in a set of 4,096 bits; one over the set
 // finds the first that is not marked.
+#![tactic(auto)]
+
 ghost use Rattle.std.specs.Prelude.{◌<◌, ◌≤◌, length, ◌≡◌};
 ghost use Rattle.lists.specs.Exact.{Exact};
 ghost use Rattle.numbers.specs.Bits.{FirstUnmarked, Sets, bit_of};

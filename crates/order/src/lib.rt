@@ -1,5 +1,7 @@
 // Byte-string order, as Rust documents it for slices: lexicographic and unsigned. And the count of equal leading bytes, which leaf.rs
 // takes by `zip .. take_while .. count` in `split_if_full`, `shorten_keys_after_split` and `merge_from`.
+#![tactic(auto)]
+
 ghost use Rattle.std.specs.Prelude.{◌≡◌};
 ghost use Rattle.order.specs.Bytes.{common};
 ghost use Rattle.order.specs.Compared.{Compared};

@@ -1,4 +1,6 @@
 // One pair of an index changed in the leaf that owns its key: put in, taken out, its value replaced. Each leaves an index, and its header.
+#![tactic(auto)]
+
 ghost use Rattle.pair_edit.specs.PairEdits.{CanInsert, CanRemove, CanReplace, InsertedPair, RemovedPair, ReplacedPair};
 
 use layout::Header;

@@ -1,4 +1,6 @@
 // A key in two pieces, its leaf's prefix and its own suffix: compared with a whole key, and written out.
+#![tactic(auto)]
+
 ghost use Rattle.std.specs.Prelude.{◌≡◌, ◌++◌, ◌+◌, ◌≤◌, length};
 ghost use Rattle.lists.specs.Part.{put};
 ghost use Rattle.order.specs.Compared.{Compared};

@@ -1,4 +1,6 @@
 // The range of a prefix: from the prefix, included, to its end, excluded, or open. It takes no index.
+#![tactic(auto)]
+
 ghost use Rattle.std.specs.Prelude.{◌≡◌, ◌<◌, ◌≤◌, length};
 ghost use Rattle.lists.specs.Part.{put};
 ghost use Rattle.model.specs.Prefix.{prefix_end};

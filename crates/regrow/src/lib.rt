@@ -1,4 +1,6 @@
 // L7: a leaf takes over its right neighbour's pairs, whose suffixes first regain the bytes that the shorter prefix no longer covers.
+#![tactic(auto)]
+
 ghost use Rattle.std.specs.Prelude.{◌-◌, ◌≤◌};
 ghost use Rattle.regrow.specs.Merge.{CanMerge, Merged, low_from};
 ghost use Rattle.regrow.specs.Regrow.{CanRegain, CanRegrow, Regained, Regrown};

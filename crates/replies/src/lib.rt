@@ -1,4 +1,6 @@
 // The script program's commands that read an index, and `new`: each makes its call and writes the answer.
+#![tactic(auto)]
+
 ghost use Rattle.std.specs.Prelude.{◌≡◌, ◌+◌, ◌≤◌, length};
 ghost use Rattle.answers.specs.Answers.{Wrote};
 ghost use Rattle.model.specs.Answers.{create_answer, number_of};

@@ -1,5 +1,7 @@
 // Room made in the arena at a place: where it isn't there, the parts before it are moved down tight, the others up tight. The leaf list stays.
 // A leaf's parts are counted from its low key on: the low key is the 0-th, the i-th pair the (i + 1)-th.
+#![tactic(auto)]
+
 ghost use Rattle.std.specs.Prelude.{◌≡◌};
 ghost use Rattle.room.specs.Leaf.{CanLeafDown, CanLeafUp, LeafDown, LeafUp};
 ghost use Rattle.room.specs.Pack.{CanPackDown, CanPackUp, PackDown, PackUp};

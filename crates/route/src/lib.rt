@@ -1,4 +1,6 @@
 // Which leaf owns a key (L1), and one leaf of the directory read: its low key, its upper key, its prefix length (L2).
+#![tactic(auto)]
+
 ghost use Rattle.std.specs.Prelude.{List, ◌≡◌, ◌<◌, get_or, length};
 ghost use Rattle.lists.specs.Exact.{Exact};
 ghost use Rattle.order.specs.Bytes.{◌≼◌};

@@ -1,4 +1,6 @@
 // A run of the script program: which index there is, if any, and what each line does.
+#![tactic(auto)]
+
 ghost use Rattle.std.specs.Prelude.{◌≡◌};
 ghost use Rattle.std.proofs.Math.Option.{some};
 ghost use Rattle.answers.specs.Answers.{Wrote};

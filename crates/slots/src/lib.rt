@@ -1,4 +1,6 @@
 // The slot map of document 01: the slot words of one leaf edited. A pair taken out, put in, its value replaced; keys shortened after a split.
+#![tactic(auto)]
+
 ghost use Rattle.std.specs.Prelude.{◌≡◌, ◌∷◌, ◌++◌, ◌+◌, ◌^◌, ◌≤◌, ◌<◌, length};
 ghost use Rattle.lists.specs.Part.{part, put};
 ghost use Rattle.slots.specs.Edits.{PutIn, Puts, Replaced, Replaces, Shortened, Shortens, TakenOut, Takes, slot_of};

@@ -1,5 +1,7 @@
 // A full leaf split as planned. F pairs are never stored: the stored pairs are cut where the plan says, and the new pair is put into its half
 // afterwards. What is left in between is an index too.
+#![tactic(auto)]
+
 ghost use Rattle.split.specs.Splits.{CanCutStored, CanShortenHalf, CanSplit, CanWriteSeparator, CutStored, SeparatorWritten, ShortenedHalf, SplitLeaf};
 
 use directory::cut_leaf;

@@ -1,5 +1,7 @@
 // A spot in the index: a leaf's place in the directory and a slot of that leaf. Where a key stands, the next spot that has a pair, and the pair
 // there.
+#![tactic(auto)]
+
 ghost use Rattle.std.specs.Prelude.{◌≤◌, length};
 ghost use Rattle.layout.specs.Presumed.{Index};
 ghost use Rattle.spots.specs.KeySpots.{KeySought};

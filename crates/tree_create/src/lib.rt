@@ -1,4 +1,6 @@
 // A fresh index in lent buffers, an index made fresh again, and its pair count.
+#![tactic(auto)]
+
 ghost use Rattle.std.specs.Prelude.{◌<◌, length};
 ghost use Rattle.words.specs.Words.{low_key_slot};
 ghost use Rattle.tree_create.specs.Outcomes.{MadeFresh, CreateOutcome, ClearOutcome, LenOutcome};

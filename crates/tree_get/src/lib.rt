@@ -1,4 +1,6 @@
 // The calls that look up one key, and the one that shows a leaf of the leaf list.
+#![tactic(auto)]
+
 ghost use Rattle.tree_get.specs.Outcomes.{ContainsOutcome, GetOutcome, LeafOutcome, ValueOutcome};
 
 pub mod inner;

@@ -1,4 +1,6 @@
 // `insert`: a new pair, or a new value for a key that has one. The old value is written to the lent output.
+#![tactic(auto)]
+
 ghost use Rattle.changes.specs.Outcomes.{lent};
 ghost use Rattle.tree_insert.specs.Outcomes.{InsertOutcome};
 

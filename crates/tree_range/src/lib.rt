@@ -1,4 +1,6 @@
 // The calls that scan: the first pair in a range, its value, the first pair above a key, the first pair of all.
+#![tactic(auto)]
+
 ghost use Rattle.tree_range.specs.Outcomes.{FirstOutcome, GtOutcome, RangeOutcome, RangeValueOutcome};
 
 pub mod bounds;

@@ -1,4 +1,6 @@
 // `remove`: a key's pair taken out, its value written to the lent output. A leaf left empty is merged with its right neighbour (L7).
+#![tactic(auto)]
+
 ghost use Rattle.changes.specs.Outcomes.{lent};
 ghost use Rattle.tree_remove.specs.Outcomes.{RemoveOutcome};
 

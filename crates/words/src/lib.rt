@@ -1,4 +1,6 @@
 // The packed words of the index, and the types that keep a leaf number, a slot number and an arena offset apart.
+#![tactic(auto)]
+
 ghost use Rattle.std.specs.Prelude.{◌≡◌, ◌+◌, ◌*◌, ◌^◌, ◌<◌};
 ghost use Rattle.lists.specs.Exact.{Exact};
 ghost use Rattle.words.specs.Words.{SlotFits, Unpacked, slot_word, LowKeyFits, LowKeyUnpacked, low_key_word, word_value, word_leaf, word_count, directory_word, first_slot, low_key_slot};
