@@ -1,6 +1,8 @@
 // Fills an index and empties it: a caller that owns its buffers tests W once, and then makes all its calls through the functions under the
 // entry points, which presume an index and leave one.
-ghost use Rattle.std.specs.Prelude.{◌<◌, ◌≤◌, ◌≡◌};
+#![tactic(auto)]
+
+ghost use Rattle.std.specs.Prelude.{◌<◌, ◌≤◌, ◌≡◌, length};
 ghost use Rattle.layout.specs.Presumed.{Index};
 ghost use Rattle.bulk.specs.Bulk.{Counted, InsertOne, Inserts, Ran, RemoveOne, Removes, four_bytes, store};
 ghost use Rattle.bulk.specs.Job.{most_pairs};
@@ -8,10 +10,10 @@ ghost use Rattle.bulk.specs.Job.{most_pairs};
 mod job;
 
 use changes::{Changed, Old};
-use io::{print_decimal, read_full, write_all};
 use job::{Job, Line, Order, call_count, key_at, parse};
 use layout::Header;
-use libc::{STDIN_FILENO, STDOUT_FILENO};
+use std::io;
+use std::io::{Read, Write};
 use tree_create::create;
 use tree_insert::inner::insert;
 use tree_read::check::holds_index;
@@ -146,35 +148,35 @@ fn remove_all(
     t
 }
 
-fn write_count(name: &[u8], n: usize) {
-    write_all(STDOUT_FILENO, name);
-    print_decimal(STDOUT_FILENO, n as u64);
-}
-
-fn write_tally(name: &[u8], t: Tally) {
+fn write_tally<W: Write>(name: &str, t: Tally, writer: &mut W) -> io::Result<()> {
     let h = t.header;
-    write_all(STDOUT_FILENO, name);
-    write_count(b" pairs ", h.pairs);
-    write_count(b" leaves ", h.leaves);
-    write_count(b" charge ", h.charge);
-    write_count(b" refused ", t.refused);
-    write_count(b" found ", t.found);
-    write_all(STDOUT_FILENO, b"\n");
+    write!(
+        writer,
+        "{name} pairs {} leaves {} charge {}",
+        h.pairs, h.leaves, h.charge
+    )?;
+    writeln!(writer, " refused {} found {}", t.refused, t.found)
 }
 
-fn run(j: Job, dir: &mut [u32], slots: &mut [u64], arena: &mut [u8])
+// Both rows are made whether or not the tallies can be written.
+fn run<W: Write>(
+    j: Job,
+    dir: &mut [u32],
+    slots: &mut [u64],
+    arena: &mut [u8],
+    writer: &mut W,
+) -> io::Result<()>
     requires { j.pairs ≤ most_pairs }
     ensures { Ran j (store dir.old slots.old arena.old) (store dir.new slots.new arena.new) }
 {
     let r = create(FANOUT, dir, slots, arena);
     let h = r.header;
     if !holds_index(h, dir, slots, arena) {
-        write_all(STDOUT_FILENO, b"no index\n");
-        return;
+        return writeln!(writer, "no index");
     }
     let inserts = j.inserts;
     let full = insert_all(h, dir, slots, arena, inserts, call_count(inserts, j.pairs));
-    write_tally(b"inserts", full);
+    let full_written = write_tally("inserts", full, writer);
     let deletes = j.deletes;
     let left = remove_all(
         full.header,
@@ -184,18 +186,51 @@ fn run(j: Job, dir: &mut [u32], slots: &mut [u64], arena: &mut [u8])
         deletes,
         call_count(deletes, j.pairs),
     );
-    write_tally(b"deletes", left);
+    let left_written = write_tally("deletes", left, writer);
+    full_written.and(left_written)
 }
 
-fn main() {
+// Reads until the buffer is full, the input ends or a read fails: how many bytes came.
+fn read_front<R: Read>(reader: &mut R, buffer: &mut [u8]) -> usize
+    ensures { result ≤ length buffer.new }
+{
+    let mut done = 0;
+    while done < buffer.len() {
+        match reader.read(&mut buffer[done..]) {
+            Ok(0) => return done,
+            Ok(n) => done += n,
+            Err(_) => return done,
+        }
+    }
+    done
+}
+
+// Reads what is asked and does it. An error is of a write: a read that fails ends the line.
+fn answer<R: Read, W: Write>(
+    dir: &mut [u32],
+    slots: &mut [u64],
+    arena: &mut [u8],
+    reader: &mut R,
+    writer: &mut W,
+) -> io::Result<()> {
     let mut text = [0u8; 16];
-    let got = read_full(STDIN_FILENO, &mut text);
+    let got = read_front(reader, &mut text);
     let Line::Asked(j) = parse(&text[..got]) else {
-        write_all(STDOUT_FILENO, b"bad line\n");
-        return;
+        return writeln!(writer, "bad line");
     };
+    run(j, dir, slots, arena, writer)
+}
+
+fn main(rt: HostRuntime) {
     let mut dir = [0u32; 1024];
     let mut slots = [0u64; 65536];
     let mut arena = [0u8; 1048576];
-    run(j, &mut dir, &mut slots, &mut arena);
+    // Where an answer can't be written, the program ends as ever.
+    let _ = answer(
+        &mut dir,
+        &mut slots,
+        &mut arena,
+        &mut rt.stdin(),
+        &mut rt.stdout(),
+    );
 }

@@ -1,8 +1,10 @@
 // The dump of docs/LAYOUT.md: document 01's run in buffers of a pattern, then the header, every word and every byte, and what two calls read.
-use io::{print_decimal, print_hex, write_all};
+#![tactic(auto)]
+
 use layout::Header;
-use libc::STDOUT_FILENO;
 use model::{Bound, Range};
+use std::io;
+use std::io::Write;
 use tree_create::create;
 use tree_get::get_value;
 use tree_insert::insert;
@@ -31,93 +33,81 @@ fn run(dir: &mut [u32], slots: &mut [u64], arena: &mut [u8]) -> Header {
     put(two, dir, slots, arena, b"\x63", b"\x03")
 }
 
-fn write_count(name: &[u8], n: usize) {
-    write_all(STDOUT_FILENO, name);
-    print_decimal(STDOUT_FILENO, n as u64);
+fn write_header<W: Write>(h: Header, writer: &mut W) -> io::Result<()> {
+    write!(writer, "header fanout {} leaves {}", h.fanout, h.leaves)?;
+    writeln!(writer, " pairs {} charge {}", h.pairs, h.charge)
 }
 
-fn write_header(h: Header) {
-    write_count(b"header fanout ", h.fanout);
-    write_count(b" leaves ", h.leaves);
-    write_count(b" pairs ", h.pairs);
-    write_count(b" charge ", h.charge);
-    write_all(STDOUT_FILENO, b"\n");
-}
-
-// A word of a buffer with its place and so many hexadecimal digits.
-fn write_word(name: &[u8], place: usize, word: u64, width: usize) {
-    write_count(name, place);
-    write_all(STDOUT_FILENO, b" ");
-    print_hex(STDOUT_FILENO, word, width);
-    write_all(STDOUT_FILENO, b"\n");
-}
-
-fn write_directory(dir: &[u32]) {
-    let mut i = 0;
-    while i < dir.len() {
-        write_word(b"directory ", i, wide(dir[i]), 8);
-        i += 1;
+fn write_directory<W: Write>(dir: &[u32], writer: &mut W) -> io::Result<()> {
+    for (i, word) in dir.iter().enumerate() {
+        writeln!(writer, "directory {i} {word:08x}")?;
     }
+    Ok(())
 }
 
-fn wide(word: u32) -> u64 {
-    word as u64
-}
-
-fn write_slots(slots: &[u64]) {
-    let mut i = 0;
-    while i < slots.len() {
-        write_word(b"slot ", i, slots[i], 16);
-        i += 1;
+fn write_slots<W: Write>(slots: &[u64], writer: &mut W) -> io::Result<()> {
+    for (i, word) in slots.iter().enumerate() {
+        writeln!(writer, "slot {i} {word:016x}")?;
     }
+    Ok(())
 }
 
-fn write_bytes(name: &[u8], bytes: &[u8]) {
-    write_all(STDOUT_FILENO, name);
-    let mut i = 0;
-    while i < bytes.len() {
-        write_all(STDOUT_FILENO, b" ");
-        print_hex(STDOUT_FILENO, byte(bytes[i]), 2);
-        i += 1;
+fn write_bytes<W: Write>(name: &str, bytes: &[u8], writer: &mut W) -> io::Result<()> {
+    write!(writer, "{name}")?;
+    for byte in bytes {
+        write!(writer, " {byte:02x}")?;
     }
-    write_all(STDOUT_FILENO, b"\n");
-}
-
-fn byte(b: u8) -> u64 {
-    b as u64
+    writeln!(writer)
 }
 
 // Rows of 16 bytes, each with its place.
-fn write_arena(arena: &[u8]) {
+fn write_arena<W: Write>(arena: &[u8], writer: &mut W) -> io::Result<()> {
     let mut i = 0;
     while 16 <= arena.len() - i {
         let e = i + 16;
-        write_count(b"arena ", i);
-        write_bytes(b"", &arena[i..e]);
+        write!(writer, "arena {i}")?;
+        write_bytes("", &arena[i..e], writer)?;
         i = e;
     }
+    Ok(())
 }
 
-fn write_values(h: Header, dir: &[u32], slots: &[u64], arena: &[u8]) {
+fn write_values<W: Write>(
+    h: Header,
+    dir: &[u32],
+    slots: &[u64],
+    arena: &[u8],
+    writer: &mut W,
+) -> io::Result<()> {
     let above = Range {
         start: Bound::Excluded,
         end: Bound::Open,
     };
-    write_bytes(b"value of 62:", get_value(h, dir, slots, arena, b"\x62"));
-    write_bytes(
-        b"first value above 62:",
-        range_value(h, dir, slots, arena, above, b"\x62", b""),
-    );
+    let value = get_value(h, dir, slots, arena, b"\x62");
+    write_bytes("value of 62:", value, writer)?;
+    let first = range_value(h, dir, slots, arena, above, b"\x62", b"");
+    write_bytes("first value above 62:", first, writer)
 }
 
-fn main() {
+fn write_dump<W: Write>(
+    h: Header,
+    dir: &[u32],
+    slots: &[u64],
+    arena: &[u8],
+    writer: &mut W,
+) -> io::Result<()> {
+    write_header(h, writer)?;
+    write_directory(dir, writer)?;
+    write_slots(slots, writer)?;
+    write_arena(arena, writer)?;
+    write_values(h, dir, slots, arena, writer)
+}
+
+fn main(rt: HostRuntime) {
     let mut dir = [0xEEEEEEEEu32; 4];
     let mut slots = [0xEEEEEEEEEEEEEEEEu64; 12];
     let mut arena = [0xEEu8; 64];
     let h = run(&mut dir, &mut slots, &mut arena);
-    write_header(h);
-    write_directory(&dir);
-    write_slots(&slots);
-    write_arena(&arena);
-    write_values(h, &dir, &slots, &arena);
+    // A dump that can't be written is cut short, and the program ends as ever.
+    let _ = write_dump(h, &dir, &slots, &arena, &mut rt.stdout());
 }

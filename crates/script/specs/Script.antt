@@ -1,10 +1,9 @@
--- A whole run of the script program, and what goes on from one piece of input to the next. Of what was read and written no contract of the C
--- library says anything.
-use Rattle.std.specs.Prelude.{ℕ, suc, zero, ◌≤◌, ◌<◌, Bool, false, not, true, List, [], ◌∷◌, ◌++◌, ◌≡◌, ℤ, negsuc, pos, length, take}
+-- A whole run of the script program, and what goes on from one piece of input to the next. Which bytes the system gives and takes no contract says.
+use Rattle.std.specs.Prelude.{ℕ, suc, zero, min, ◌≤◌, ◌<◌, Bool, false, not, true, List, [], ◌∷◌, ◌++◌, ◌≡◌, length, take, Result, Ok, Err}
 use Rattle.std.proofs.Math.Option.{Option}
+use Rattle.std.specs.Io.{ReadsAtMost}
+use Rattle.std.specs.declared.io.Error.{Error}
 use Rattle.feed.specs.Feeds.{Keeps}
-use Rattle.io.specs.Counts.{clamp_len}
-use Rattle.libc.specs.Io.{Moved}
 use Rattle.lines.specs.Grammar.{Command}
 use Rattle.lists.specs.Part.{put}
 use Rattle.order.specs.Bytes.{Bytes}
@@ -122,17 +121,17 @@ pub record Over (c : Carried) (failed : Bool) (dir slots arena line : List ℕ) 
   pub arena_is : now_arena ≡ arena
   pub line_is : now_line ≡ line
 
--- what a read answered: 0 at the input's end, a number below it for a failure, else how many bytes are at the input buffer's front
-abbrev pub Got : ℤ → Carried → (dir slots arena line input : List ℕ) → Carried → (now_dir now_slots now_arena now_line : List ℕ) → Type 0
-Got (pos zero) c dir slots arena line input r now_dir now_slots now_arena now_line = Over c false dir slots arena line r now_dir now_slots now_arena now_line
-Got (pos (suc n)) c dir slots arena line input r now_dir now_slots now_arena now_line =
-    Answered c dir slots arena line (take (clamp_len (pos (suc n)) (length input)) input) r now_dir now_slots now_arena now_line
-Got (negsuc n) c dir slots arena line input r now_dir now_slots now_arena now_line = Over c true dir slots arena line r now_dir now_slots now_arena now_line
+-- what a read answered: no bytes at the input's end, an error for a failure, else how many bytes are at the input buffer's front
+abbrev pub Got : Result ℕ Error → Carried → (dir slots arena line input : List ℕ) → Carried → (now_dir now_slots now_arena now_line : List ℕ) → Type 0
+Got (Ok zero) c dir slots arena line input r now_dir now_slots now_arena now_line = Over c false dir slots arena line r now_dir now_slots now_arena now_line
+Got (Ok (suc n)) c dir slots arena line input r now_dir now_slots now_arena now_line =
+    Answered c dir slots arena line (take (min (suc n) (length input)) input) r now_dir now_slots now_arena now_line
+Got (Err e) c dir slots arena line input r now_dir now_slots now_arena now_line = Over c true dir slots arena line r now_dir now_slots now_arena now_line
 
 -- whatever the read answered, and left in the input buffer
 pub record Stepped (c : Carried) (dir slots arena line input : List ℕ) (r : Carried) (now_dir now_slots now_arena now_line now_input : List ℕ) : Type 0 where
-  pub got : ℤ
-  pub moved : Moved (length input) got
+  pub got : Result ℕ Error
+  pub moved : ReadsAtMost got input
   pub answered : Got got c dir slots arena line now_input r now_dir now_slots now_arena now_line
 
 -- what some input leads to, fed from nothing on

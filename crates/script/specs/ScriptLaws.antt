@@ -1,14 +1,13 @@
 -- One input has one text; and what goes on from one piece of input to the next, one loop at a time.
 -- Assumes nothing.
-use Rattle.std.specs.Prelude.{ℕ, suc, zero, ◌+◌, ◌-◌, ◌≤◌, ◌<◌, Bool, false, not, true, List, [], ◌∷◌, ◌++◌, ◌≡◌, refl, ℤ, negsuc, pos, length, take}
-use Rattle.std.proofs.Common.{append-nil, sym, ap, subst, ◌∙◌, arith, leb-false, leb-true, take-add}
+use Rattle.std.specs.Prelude.{ℕ, suc, zero, min, ◌+◌, ◌-◌, ◌≤◌, ◌<◌, Bool, false, not, true, List, [], ◌∷◌, ◌++◌, ◌≡◌, refl, length, take, Result, Ok, Err, IfOk, is_err}
+use Rattle.std.proofs.Common.{append-nil, sym, ap, subst, ◌∙◌, arith, length-take, take-add}
 use Rattle.std.proofs.Math.Option.{Option}
-use Rattle.std.specs.Int.Signed.{le_z, lt_z}
+use Rattle.std.specs.Io.{ReadsAtMost}
+use Rattle.std.specs.declared.io.Error.{Error}
 use Rattle.answers.specs.Answers.{Wrote}
 use Rattle.feed.specs.Feeds.{Keeps}
 use Rattle.feed.specs.FeedLaws.{keeps_none}
-use Rattle.io.specs.Counts.{clamp_len}
-use Rattle.libc.specs.Io.{Moved}
 use Rattle.lines.specs.Grammar.{Command}
 use Rattle.lists.specs.Exact.{Exact, exact_no}
 use Rattle.lists.specs.Part.{part, put}
@@ -258,34 +257,34 @@ along_done {c} {e} {dir} {slots} {arena} {line} {piece} {d₁} {s₁} {a₁} {l�
 over_same : (c : Carried) (failed : Bool) (dir slots arena line : List ℕ) → Over c failed dir slots arena line (ended c failed) dir slots arena line
 over_same c failed dir slots arena line = record { is = refl; dir_is = refl; slots_are = refl; arena_is = refl; line_is = refl }
 
--- (x is what the machine reads back of `got`)
-pub got_none : (got x : ℤ) (c : Carried) (dir slots arena line input : List ℕ) → x ≡ got → le_z x (pos 0) ≡ true
-    → Got got c dir slots arena line input (ended c (lt_z x (pos 0))) dir slots arena line
-got_none got x c dir slots arena line input e h =
-    subst (λ (i : ℤ). Got got c dir slots arena line input (ended c (lt_z i (pos 0))) dir slots arena line) (sym e)
-    (go got (subst (λ (i : ℤ). le_z i (pos 0) ≡ true) e h))
-  where
-    go : (z : ℤ) → le_z z (pos 0) ≡ true → Got z c dir slots arena line input (ended c (lt_z z (pos 0))) dir slots arena line
-    go (pos zero) t = over_same c false dir slots arena line
-    go (pos (suc n)) t = absurd (omega (arith, leb-true (suc n) 0 t))
-    go (negsuc n) t = over_same c true dir slots arena line
+pub got_none : (got : Result ℕ Error) (c : Carried) (dir slots arena line input : List ℕ) → IfOk got (λ n. n ≡ 0)
+    → Got got c dir slots arena line input (ended c (is_err got)) dir slots arena line
+got_none (Ok zero) c dir slots arena line input h = over_same c false dir slots arena line
+got_none (Ok (suc n)) c dir slots arena line input h = absurd (omega (arith, h))
+got_none (Err e) c dir slots arena line input h = over_same c true dir slots arena line
 
-pub got_some : (got x y : ℤ) (input : List ℕ) {n : ℕ} {c r : Carried} {dir slots arena line d₁ s₁ a₁ l₁ : List ℕ} → x ≡ got → le_z x (pos 0) ≡ false → y ≡ got
-    → n ≡ clamp_len y (length input) → Answered c dir slots arena line (part input 0 (n - 0)) r d₁ s₁ a₁ l₁ → Got got c dir slots arena line input r d₁ s₁ a₁ l₁
-got_some got x y input {n} {c} {r} {dir} {slots} {arena} {line} {d₁} {s₁} {a₁} {l₁} e h g k p =
-    go got (subst (λ (i : ℤ). le_z i (pos 0) ≡ false) e h) (k ∙ ap (λ (i : ℤ). clamp_len i (length input)) g)
+pub got_some : (got : Result ℕ Error) (count : ℕ) (input : List ℕ) {n : ℕ} {c r : Carried} {dir slots arena line d₁ s₁ a₁ l₁ : List ℕ} → got ≡ Ok count
+    → (count ≡ 0 → ⊥) → n ≡ min count (length input) → Answered c dir slots arena line (part input 0 (n - 0)) r d₁ s₁ a₁ l₁
+    → Got got c dir slots arena line input r d₁ s₁ a₁ l₁
+got_some got count input {n} {c} {r} {dir} {slots} {arena} {line} {d₁} {s₁} {a₁} {l₁} e h k p =
+    subst (λ (i : Result ℕ Error). Got i c dir slots arena line input r d₁ s₁ a₁ l₁) (sym e) (go count h k)
   where
-    go : (z : ℤ) → le_z z (pos 0) ≡ false → n ≡ clamp_len z (length input) → Got z c dir slots arena line input r d₁ s₁ a₁ l₁
-    go (pos zero) t u = absurd (omega (arith, leb-false 0 0 t))
-    go (pos (suc m)) t u =
-        let v : n - 0 ≡ clamp_len (pos (suc m)) (length input) = (let w : n - 0 ≡ n = omega arith in w) ∙ u in
+    go : (i : ℕ) → (i ≡ 0 → ⊥) → n ≡ min i (length input) → Got (Ok i) c dir slots arena line input r d₁ s₁ a₁ l₁
+    go zero t u = absurd (t refl)
+    go (suc m) t u =
+        let v : n - 0 ≡ min (suc m) (length input) = (let w : n - 0 ≡ n = omega arith in w) ∙ u in
         subst (λ (j : ℕ). Answered c dir slots arena line (take j input) r d₁ s₁ a₁ l₁) v p
-    go (negsuc m) t u = true_false t
 
-pub stepped_by : (got x : ℤ) {c r : Carried} {dir slots arena line input d₁ s₁ a₁ l₁ : List ℕ} (now_input : List ℕ) → x ≡ got → Moved (length input) got
-    → Got x c dir slots arena line now_input r d₁ s₁ a₁ l₁ → Stepped c dir slots arena line input r d₁ s₁ a₁ l₁ now_input
-stepped_by got x {c} {r} {dir} {slots} {arena} {line} {input} {d₁} {s₁} {a₁} {l₁} now_input e m g =
-    record { got = got; moved = m; answered = subst (λ (i : ℤ). Got i c dir slots arena line now_input r d₁ s₁ a₁ l₁) e g }
+-- (a read leaves the buffer as long as it was)
+reads_kept : (got : Result ℕ Error) (input now_input : List ℕ) → length now_input ≡ length input → ReadsAtMost got now_input → ReadsAtMost got input
+reads_kept (Ok n) input now_input e m =
+    let h : n ≤ length input = omega (arith, e, m.0) in
+    (h, omega (arith, h, length-take n input))
+reads_kept (Err e) input now_input k m = m
+
+pub stepped_by : (got : Result ℕ Error) {c r : Carried} {dir slots arena line input d₁ s₁ a₁ l₁ : List ℕ} (now_input : List ℕ) → length now_input ≡ length input
+    → ReadsAtMost got now_input → Got got c dir slots arena line now_input r d₁ s₁ a₁ l₁ → Stepped c dir slots arena line input r d₁ s₁ a₁ l₁ now_input
+stepped_by got {input = input} now_input e m g = record { got = got; moved = reads_kept got input now_input e m; answered = g }
 
 -- `answer_last`
 
@@ -395,10 +394,10 @@ module _ {c r : Carried} {dir slots arena line key value old out d₁ s₁ a₁ 
         unfailed = λ g. x.failed_is m (y.unfailed m) ∙ ap not g;
       }
 
-  led_got : (input : List ℕ) (got : ℤ) → c.more ≡ true → Got got c dir slots arena line input r d₁ s₁ a₁ l₁ → Led r d₁ s₁ a₁ l₁ k₁ v₁ o₁ u₁
-  led_got input (pos zero) m x = led_over x
-  led_got input (pos (suc i)) m x = led_piece x m
-  led_got input (negsuc i) m x = led_over x
+  led_got : (input : List ℕ) (got : Result ℕ Error) → c.more ≡ true → Got got c dir slots arena line input r d₁ s₁ a₁ l₁ → Led r d₁ s₁ a₁ l₁ k₁ v₁ o₁ u₁
+  led_got input (Ok zero) m x = led_over x
+  led_got input (Ok (suc i)) m x = led_piece x m
+  led_got input (Err e) m x = led_over x
 
   pub led_step : {input now_input : List ℕ} → c.more ≡ true → Stepped c dir slots arena line input r d₁ s₁ a₁ l₁ now_input → Led r d₁ s₁ a₁ l₁ k₁ v₁ o₁ u₁
   led_step {now_input = input} m x = led_got input x.got m x.answered

@@ -1,11 +1,14 @@
 // The script program: one call a line, from standard input; the answers to standard output.
+#![tactic(auto)]
+
 ghost use Rattle.std.specs.Prelude.{◌<◌, true, ◌≡◌};
 ghost use Rattle.lists.specs.Exact.{Exact};
-ghost use Rattle.script.specs.Script.{AllRead, Answered, Due, Filled, Got, Kept, Last, Ready, Room, Stepped, begun};
+ghost use Rattle.script.specs.Script.{AllRead, Answered, Due, Filled, Got, Kept, Last, Ready, Room, Stepped, begun, ended};
 
-use libc::{STDIN_FILENO, STDOUT_FILENO};
 use session::take::{Fed, take_lines};
 use session::{Session, closed, reply};
+use std::io;
+use std::io::{Read, Write};
 
 // As large as the program's ceilings ask.
 const DIR_LENGTH: usize = 64;
@@ -68,21 +71,34 @@ fn begin(c: Carried, next: usize) -> Fed
     }
 }
 
-// Hands a text of the program to the system: of what comes of that no contract says anything.
-fn write_text(text: &[u8]) -> bool
+// No more input comes: what stands and what is held goes on as it is.
+fn end(c: Carried, failed: bool) -> Carried
+    ensures { result ≡ ended c failed }
+{
+    let s = c.session;
+    Carried {
+        session: s,
+        held: c.held,
+        more: false,
+        failed: failed,
+    }
+}
+
+// Hands a text of the program to the writer: of what comes of that no contract says anything.
+fn write_text<W: Write>(text: &[u8], writer: &mut W) -> io::Result<()>
     requires { Due text.now }
 {
-    io::write_all(STDOUT_FILENO, text)
+    writer.write_all(text)
 }
 
 // Writes the answers out. Where that fails, there is no more input.
-fn write_out(f: Fed, out: &[u8]) -> Carried
+fn write_out<W: Write>(f: Fed, out: &[u8], writer: &mut W) -> Carried
     requires { Filled f out.now }
     ensures { Kept f result }
 {
     let n = f.at;
     let s = f.session;
-    let is_written = write_text(&out[0..n]);
+    let is_written = write_text(&out[0..n], writer).is_ok();
     Carried {
         session: s,
         held: f.held,
@@ -92,7 +108,7 @@ fn write_out(f: Fed, out: &[u8]) -> Carried
 }
 
 // A piece of input answered, the output written whenever it is nearly full, and at the end.
-fn answer_piece(
+fn answer_piece<W: Write>(
     c: Carried,
     dir: &mut [u32],
     slots: &mut [u64],
@@ -103,6 +119,7 @@ fn answer_piece(
     value: &mut [u8],
     old: &mut [u8],
     out: &mut [u8],
+    writer: &mut W,
 ) -> Carried
     requires { Ready c dir.old slots.old arena.old line.old key.old value.old old.old out.old }
     ensures { Answered c dir.old slots.old arena.old line.old piece.now result dir.new slots.new arena.new line.new }
@@ -113,15 +130,15 @@ fn answer_piece(
         let b = begin(e, next);
         let f = take_lines(b, dir, slots, arena, piece, line, key, value, old, out);
         next = f.next;
-        e = write_out(f, out);
+        e = write_out(f, out, writer);
     }
     e
 }
 
 // What a read answered: at the input's end, and where the read failed, no more comes; else the bytes that came are at the buffer's front.
-fn answer_got(
+fn answer_got<W: Write>(
     c: Carried,
-    got: isize,
+    got: io::Result<usize>,
     dir: &mut [u32],
     slots: &mut [u64],
     arena: &mut [u8],
@@ -131,36 +148,35 @@ fn answer_got(
     value: &mut [u8],
     old: &mut [u8],
     out: &mut [u8],
+    writer: &mut W,
 ) -> Carried
     requires { Ready c dir.old slots.old arena.old line.old key.old value.old old.old out.old }
     ensures { Got got c dir.old slots.old arena.old line.old input.now result dir.new slots.new arena.new line.new }
 {
-    if got <= 0 {
-        let s = c.session;
-        return Carried {
-            session: s,
-            held: c.held,
-            more: false,
-            failed: got < 0,
-        };
+    match got {
+        Ok(0) => end(c, false),
+        Ok(count) => {
+            let n = count.min(input.len());
+            answer_piece(
+                c,
+                dir,
+                slots,
+                arena,
+                &input[0..n],
+                line,
+                key,
+                value,
+                old,
+                out,
+                writer,
+            )
+        }
+        Err(_) => end(c, true),
     }
-    let n = io::count(got, input);
-    answer_piece(
-        c,
-        dir,
-        slots,
-        arena,
-        &input[0..n],
-        line,
-        key,
-        value,
-        old,
-        out,
-    )
 }
 
 // Reads once, and answers what came.
-fn answer_some(
+fn answer_some<R: Read, W: Write>(
     c: Carried,
     dir: &mut [u32],
     slots: &mut [u64],
@@ -171,16 +187,20 @@ fn answer_some(
     value: &mut [u8],
     old: &mut [u8],
     out: &mut [u8],
+    reader: &mut R,
+    writer: &mut W,
 ) -> Carried
     requires { Ready c dir.old slots.old arena.old line.old key.old value.old old.old out.old }
     ensures { Stepped c dir.old slots.old arena.old line.old input.old result dir.new slots.new arena.new line.new input.new }
 {
-    let got = libc::read(STDIN_FILENO, input);
-    answer_got(c, got, dir, slots, arena, input, line, key, value, old, out)
+    let got = reader.read(input);
+    answer_got(
+        c, got, dir, slots, arena, input, line, key, value, old, out, writer,
+    )
 }
 
 // A last line without a newline counts as a line, unless a read or a write failed: then what is held may be cut.
-fn answer_last(
+fn answer_last<W: Write>(
     c: Carried,
     dir: &mut [u32],
     slots: &mut [u64],
@@ -190,6 +210,7 @@ fn answer_last(
     value: &mut [u8],
     old: &mut [u8],
     out: &mut [u8],
+    writer: &mut W,
 )
     requires { Ready c dir.old slots.old arena.old line.now key.old value.old old.old out.old }
     ensures { Last c dir.old slots.old arena.old line.now out.old out.new }
@@ -204,12 +225,13 @@ fn answer_last(
     let s = c.session;
     let r = reply(s, dir, slots, arena, &line[0..n], key, value, old, out, 0);
     let e = r.at;
-    write_text(&out[0..e]);
+    // Nothing comes after it, so nothing depends on whether it was written.
+    let _ = write_text(&out[0..e], writer);
 }
 
 // Reads and answers until no more comes. A proved loop has to end, and nothing says that the input does: so the turns are counted up to a number
 // that no run comes to.
-fn answer_reads(
+fn answer_reads<R: Read, W: Write>(
     dir: &mut [u32],
     slots: &mut [u64],
     arena: &mut [u8],
@@ -219,6 +241,8 @@ fn answer_reads(
     value: &mut [u8],
     old: &mut [u8],
     out: &mut [u8],
+    reader: &mut R,
+    writer: &mut W,
 ) -> Reads
     requires { Room dir.old slots.old arena.old line.old key.old value.old old.old out.old }
     ensures { AllRead result dir.new slots.new arena.new line.new key.new value.new old.new out.new }
@@ -231,7 +255,9 @@ fn answer_reads(
     };
     let mut turns = 0;
     while goes_on(c, turns, usize::MAX) {
-        c = answer_some(c, dir, slots, arena, input, line, key, value, old, out);
+        c = answer_some(
+            c, dir, slots, arena, input, line, key, value, old, out, reader, writer,
+        );
         turns += 1;
     }
     Reads {
@@ -241,7 +267,7 @@ fn answer_reads(
 }
 
 // All of the input, then the last line.
-fn answer_all(
+fn answer_all<R: Read, W: Write>(
     dir: &mut [u32],
     slots: &mut [u64],
     arena: &mut [u8],
@@ -251,15 +277,19 @@ fn answer_all(
     value: &mut [u8],
     old: &mut [u8],
     out: &mut [u8],
+    reader: &mut R,
+    writer: &mut W,
 )
     requires { Room dir.old slots.old arena.old line.old key.old value.old old.old out.old }
 {
-    let r = answer_reads(dir, slots, arena, input, line, key, value, old, out);
+    let r = answer_reads(
+        dir, slots, arena, input, line, key, value, old, out, reader, writer,
+    );
     let c = r.carried;
-    answer_last(c, dir, slots, arena, line, key, value, old, out);
+    answer_last(c, dir, slots, arena, line, key, value, old, out, writer);
 }
 
-fn main() {
+fn main(rt: HostRuntime) {
     let mut dir = [0u32; DIR_LENGTH];
     let mut slots = [0u64; SLOTS_LENGTH];
     let mut arena = [0u8; ARENA_LENGTH];
@@ -270,7 +300,16 @@ fn main() {
     let mut old = [0u8; OLD_LENGTH];
     let mut out = [0u8; OUTPUT_LENGTH];
     answer_all(
-        &mut dir, &mut slots, &mut arena, &mut input, &mut line, &mut key, &mut value, &mut old,
+        &mut dir,
+        &mut slots,
+        &mut arena,
+        &mut input,
+        &mut line,
+        &mut key,
+        &mut value,
+        &mut old,
         &mut out,
+        &mut rt.stdin(),
+        &mut rt.stdout(),
     );
 }

@@ -2,7 +2,6 @@ use mathlib.Core.Path.{refl}
 use native.Mathlib.Omega.{arith}
 use borrow.Author.Rules.{rules}
 use Rattle.bulk.specs.BulkLaws.{along_done, along_start, along_turn, count_fits, insert_key}
-use Rattle.bulk.specs.Job.{key_at}
 use Rattle.bulk.specs.RowLaws.{inserts_stand}
 use Rattle.bulk.proofs.insert_all.Goals as goal
 

@@ -5,7 +5,7 @@ use lib.ListN.{length}
 use Rattle.dump.proofs.write_arena.Given as goal
 
 abbrev pub invariant-loop-i : goal.invariant-loop-i
-invariant-loop-i l = l.i ≤ length l.arena
+invariant-loop-i g l = l.i ≤ length l.arena
 
 abbrev pub decreases-loop-i : goal.decreases-loop-i
-decreases-loop-i l = length l.arena - l.i
+decreases-loop-i g l = length l.arena - l.i

@@ -1,6 +1,5 @@
 -- `parse` tells the job that the text asks for, or that it asks for none: each test is that of a part of the line (`Spelled`).
 -- Assumes nothing.
-use mathlib.Core.Logic.{inl, inr}
 use native.Mathlib.Omega.{arith}
 use Rattle.bulk.specs.JobLaws.{asked, end_most, no_first, no_gap, no_gap_2, no_number, no_second, short_line}
 use Rattle.bulk.proofs.job.parse.Goals as goal
