@@ -1,4 +1,4 @@
-// The ordered index for C: the functions of libexports.a (`rt staticlib exports`). "Document 01" is the project's specification.
+// The ordered index for C: the functions of libexports.a (`tools/build archive`). "Document 01" is the project's specification.
 //
 // An index lies in three buffers that the caller owns and lends to each call, and in a header of four counts:
 //
@@ -37,7 +37,7 @@
 // refusals of each call stand at the call, in the order in which they are tested.
 //
 // The code is for x86-64 with the System V calling convention. It uses SSE2 and the red zone (128 bytes below the stack pointer), which
-// `rt staticlib` can't switch off: call it on a stack that no interrupt handler uses, with the SSE state saved. It takes less than 4,096 bytes
+// the toolchain can't switch off: call it on a stack that no interrupt handler uses, with the SSE state saved. It takes less than 4,096 bytes
 // of stack (docs/SPEED.md). It needs memcpy and memset of the program that it is linked into, and nothing else.
 
 #ifndef OLYBZHAN_H

@@ -1,4 +1,4 @@
-//! Links the archive of the exported functions. `rt staticlib exports` writes it
+//! Links the archive of the exported functions. `tools/build archive` writes it
 //! to `target/staticlib`; OLYBZHAN_ARCHIVE names another folder, absolute or as
 //! seen from this package.
 
@@ -21,7 +21,7 @@ fn main() {
             println!("cargo::rustc-link-lib=static=exports");
         }
         Err(_) => println!(
-            "cargo::error=no {}: run `rt staticlib exports`, or set OLYBZHAN_ARCHIVE to its folder",
+            "cargo::error=no {}: run `tools/build archive`, or set OLYBZHAN_ARCHIVE to its folder",
             archive.display()
         ),
     }

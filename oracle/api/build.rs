@@ -1,24 +1,26 @@
-//! Finds the archive that `rt staticlib exports` makes. The environment
+//! Finds the archive that `tools/build archive` makes. The environment
 //! variable OLYBZHAN_ARCHIVE names its folder, absolute or as seen from this
 //! package.
 //!
-//! The archive is for x86-64. There it is linked. Elsewhere it is linked into
-//! `far/far.c`, which the Rattle toolchain's emulator runs.
+//! It is linked, or under the feature `fenced` linked into `fenced/fenced.c`,
+//! a program of its own that makes the calls.
 
+use std::env;
 use std::path::{Path, PathBuf};
 use std::process::Command;
-use std::{env, fs};
 
-/// Where `rt` puts it.
+/// Where it is put.
 const DEFAULT: &str = "../../target/staticlib";
-/// What C programs include. The toolchain's compiler has no headers of its own.
+/// What C programs include.
 const HEADERS: &str = "../../clients/c";
 
 fn main() {
     let target = env::var("CARGO_CFG_TARGET_ARCH").expect("cargo sets it");
+    let is_fenced = env::var_os("CARGO_FEATURE_FENCED").is_some();
     let linked = archive().and_then(|archive| match target.as_str() {
+        "x86_64" if is_fenced => link_fenced(&archive),
         "x86_64" => link(&archive),
-        other => link_far(&archive, other),
+        other => Err(format!("the archive is for x86-64, not for {other}")),
     });
     if let Err(message) = linked {
         println!("cargo::error={message}");
@@ -32,7 +34,7 @@ fn archive() -> Result<PathBuf, String> {
     println!("cargo::rerun-if-changed={}", archive.display());
     archive.canonicalize().map_err(|_| {
         let archive = archive.display();
-        format!("no {archive}: run `rt staticlib exports`, or set OLYBZHAN_ARCHIVE to its folder")
+        format!("no {archive}: run `tools/build archive`, or set OLYBZHAN_ARCHIVE to its folder")
     })
 }
 
@@ -43,53 +45,22 @@ fn link(archive: &Path) -> Result<(), String> {
     Ok(())
 }
 
-fn link_far(archive: &Path, machine: &str) -> Result<(), String> {
-    println!("cargo::rerun-if-changed=far/far.c");
+/// By the compiler that cargo itself links with, so it is there.
+fn link_fenced(archive: &Path) -> Result<(), String> {
+    println!("cargo::rerun-if-changed=fenced");
     println!("cargo::rerun-if-changed={HEADERS}");
-    let own = toolchain(machine)?;
-    let tools = own.join("toolchain");
     let out = PathBuf::from(env::var_os("OUT_DIR").expect("cargo sets it"));
-    let (object, program) = (out.join("far.o"), out.join("far"));
-    let target = "x86_64-unknown-linux-gnu";
-    run(Command::new(tools.join("bin/clang"))
-        .args([
-            "-O2",
-            "-Wall",
-            "-Werror",
-            "-ffreestanding",
-            "-c",
-            "-target",
-            target,
-        ])
-        .args([format!("-I{HEADERS}"), format!("-I{HEADERS}/bare")])
-        .args(["far/far.c", "-o"])
-        .arg(&object))?;
-    run(Command::new(own.join("bin/rattle-link"))
-        .args(["--target", target, "--toolchain"])
-        .arg(&tools)
+    let program = out.join("fenced");
+    // Bound at the start, so that the loader takes no stack in the midst of a call.
+    run(Command::new("cc")
+        .args(["-O2", "-Wall", "-Werror", "-Wl,-z,now"])
+        .arg(format!("-I{HEADERS}"))
+        .arg("fenced/fenced.c")
+        .arg(archive)
         .arg("-o")
-        .args([&program, &object])
-        .arg(archive))?;
-    println!("cargo::rustc-env=FAR_PROGRAM={}", program.display());
-    println!("cargo::rustc-env=FAR_TOOLS={}", tools.display());
+        .arg(&program))?;
+    println!("cargo::rustc-env=FENCED_PROGRAM={}", program.display());
     Ok(())
-}
-
-/// The part of the Rattle toolchain that is for this machine.
-fn toolchain(machine: &str) -> Result<PathBuf, String> {
-    println!("cargo::rerun-if-env-changed=RATTLE_HOME");
-    println!("cargo::rerun-if-env-changed=PATH");
-    let home = env::var_os("RATTLE_HOME").map(PathBuf::from).or_else(|| {
-        let path = env::var_os("PATH")?;
-        let rt =
-            env::split_paths(&path).find_map(|folder| fs::canonicalize(folder.join("rt")).ok())?;
-        Some(rt.parent()?.parent()?.to_path_buf())
-    });
-    let own = home.map(|home| home.join("on").join(machine));
-    let own = own.filter(|own| own.join("toolchain/bin/qemu-x86_64").exists());
-    own.ok_or(format!(
-        "no Rattle toolchain with an emulator: the archive is for x86-64, and this is {machine}"
-    ))
 }
 
 fn run(command: &mut Command) -> Result<(), String> {

@@ -34,7 +34,7 @@
 //!
 //! # Linking
 //!
-//! The archive is for x86-64. `rt staticlib exports` writes it to
+//! The archive is for x86-64. `tools/build archive` writes it to
 //! `target/staticlib` of the repository, where this package looks for it;
 //! `OLYBZHAN_ARCHIVE` names another folder.
 

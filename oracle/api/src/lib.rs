@@ -16,10 +16,11 @@ pub mod damages;
 #[allow(unsafe_code)]
 #[path = "../../../clients/olybzhan/src/ffi.rs"]
 pub mod exports;
-#[cfg(not(target_arch = "x86_64"))]
-mod far;
+#[cfg(feature = "fenced")]
+mod fenced;
 pub mod fresh;
 pub mod history;
+#[cfg(not(feature = "fenced"))]
 mod near;
 mod outputs;
 mod parts;

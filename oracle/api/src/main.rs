@@ -206,10 +206,10 @@ fn print_times(seed: u64) {
     for pairs in TIMED {
         for timed in times::run(pairs, seed) {
             let (call, leaves, time) = (timed.call, timed.leaves, micro(timed.time));
-            println!("{call}, {pairs} pairs in {leaves} leaves: {time} µs{EMULATED}");
+            println!("{call}, {pairs} pairs in {leaves} leaves: {time} µs");
         }
     }
-    println!("scan_prefix: {} µs{EMULATED}", micro(times::run_prefix()));
+    println!("scan_prefix: {} µs", micro(times::run_prefix()));
 }
 
 /// A change begins with the test of W. Its time less that of the test by
@@ -223,7 +223,7 @@ fn print_changes(pairs: usize, seed: u64) {
             let (whole, test) = (each(series.calls), each(series.tests));
             let besides = each(series.calls.saturating_sub(series.tests));
             println!(
-                "{pairs} {order} {calls} {leaves} leaves: each {whole} µs, test of W {test} µs, besides {besides} µs{EMULATED}"
+                "{pairs} {order} {calls} {leaves} leaves: each {whole} µs, test of W {test} µs, besides {besides} µs"
             );
         }
     }
@@ -232,13 +232,6 @@ fn print_changes(pairs: usize, seed: u64) {
 fn micro(time: Duration) -> String {
     format!("{:.2}", time.as_secs_f64() * 1e6)
 }
-
-/// A time under the emulator says nothing of the machine that the code is for.
-const EMULATED: &str = if cfg!(target_arch = "x86_64") {
-    ""
-} else {
-    " under the emulator"
-};
 
 /// What each seed gives, the seeds shared out among the jobs.
 fn of_each<T: Send>(seeds: Vec<u64>, jobs: usize, run: &(impl Fn(u64) -> T + Sync)) -> Vec<T> {

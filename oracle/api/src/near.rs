@@ -1,8 +1,6 @@
-//! Safe calls of the archive's functions, on a machine that it is for.
+//! Safe calls of the archive's functions, in this process.
 
 #![allow(unsafe_code)]
-// On other machines these are only checked; `far` makes the calls.
-#![cfg_attr(not(target_arch = "x86_64"), allow(dead_code))]
 
 use crate::exports::*;
 use crate::reads::{Read, Reading};

@@ -7,9 +7,9 @@ use reference::layout::read;
 use reference::refusal::Refusal;
 use reference::w::holds_index;
 
-#[cfg(not(target_arch = "x86_64"))]
-pub(crate) use crate::far as archive;
-#[cfg(target_arch = "x86_64")]
+#[cfg(feature = "fenced")]
+pub(crate) use crate::fenced as archive;
+#[cfg(not(feature = "fenced"))]
 pub(crate) use crate::near as archive;
 
 #[derive(Clone, Copy, Debug)]

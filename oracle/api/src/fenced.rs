@@ -1,5 +1,5 @@
-//! The same calls on a machine that the archive isn't for: `far/far.c` makes
-//! them under the toolchain's emulator.
+//! The same calls, each made by `fenced/fenced.c`, a process of its own, with
+//! every buffer beside memory that can't be touched.
 
 use crate::STACK;
 use crate::exports::{OldReply, Place, Reply, Scanned, Shown, Span, Told};
@@ -12,7 +12,7 @@ use std::process::{Child, ChildStdin, ChildStdout, Command, Stdio};
 use std::sync::Mutex;
 use std::time::Duration;
 
-/// As in `far.c`.
+/// As in `fenced.c`.
 #[derive(Clone, Copy, Debug)]
 enum Call {
     HoldsIndex,
@@ -51,14 +51,14 @@ struct Answer {
     time: Duration,
 }
 
-struct Far {
+struct Fenced {
     child: Child,
     requests: ChildStdin,
     answers: ChildStdout,
 }
 
 /// Those that no call uses. One is started where there is none.
-static IDLE: Mutex<Vec<Far>> = Mutex::new(Vec::new());
+static IDLE: Mutex<Vec<Fenced>> = Mutex::new(Vec::new());
 
 pub fn holds_index(header: Header, lent: &Buffers) -> bool {
     let answer = Request::of(Call::HoldsIndex, header, lent).answer(&mut []);
@@ -155,11 +155,11 @@ fn change(
         keys,
         ..Request::of(call, header, lent)
     };
-    let answer = with_far(call, |far| {
-        let answer = far.answer(&request, out)?;
-        far.answers.read_exact(&mut dir)?;
-        far.answers.read_exact(&mut slots)?;
-        far.answers.read_exact(&mut arena)?;
+    let answer = with_fenced(call, |fenced| {
+        let answer = fenced.answer(&request, out)?;
+        fenced.answers.read_exact(&mut dir)?;
+        fenced.answers.read_exact(&mut slots)?;
+        fenced.answers.read_exact(&mut arena)?;
         Ok(answer)
     });
     for (word, bytes) in lent.dir.iter_mut().zip(dir.chunks_exact(4)) {
@@ -173,9 +173,9 @@ fn change(
 }
 
 /// Panics where the call crashes.
-fn with_far<T>(call: Call, work: impl FnOnce(&mut Far) -> Result<T>) -> T {
+fn with_fenced<T>(call: Call, work: impl FnOnce(&mut Fenced) -> Result<T>) -> T {
     let idle = IDLE.lock().expect("no panic with the lock").pop();
-    let mut running = idle.unwrap_or_else(Far::start);
+    let mut running = idle.unwrap_or_else(Fenced::start);
     match work(&mut running) {
         Ok(answer) => {
             IDLE.lock().expect("no panic with the lock").push(running);
@@ -219,7 +219,7 @@ impl<'a> Request<'a> {
     }
 
     fn answer(&self, out: &mut [u8]) -> Answer {
-        with_far(self.call, |far| far.answer(self, out))
+        with_fenced(self.call, |fenced| fenced.answer(self, out))
     }
 
     fn bytes(&self, out: &[u8]) -> Vec<u8> {
@@ -254,23 +254,19 @@ impl<'a> Request<'a> {
     }
 }
 
-impl Far {
-    fn start() -> Far {
-        let (tools, program) = (env!("FAR_TOOLS"), env!("FAR_PROGRAM"));
-        // The emulator gives no heed to a lower limit that it is started with.
-        let mut child = Command::new(format!("{tools}/bin/qemu-x86_64"))
-            .args(["-s", &STACK.to_string()])
-            .arg(format!("{tools}/lib/ld-linux-x86-64.so.2"))
-            .arg("--library-path")
-            .arg(format!("{tools}/lib"))
-            .arg(program)
+impl Fenced {
+    fn start() -> Fenced {
+        // Its stack is as large as the limit that it is started with, in KiB.
+        let limited = format!("ulimit -s {} && exec \"$0\"", STACK / 1_024);
+        let mut child = Command::new("sh")
+            .args(["-c", &limited, env!("FENCED_PROGRAM")])
             .stdin(Stdio::piped())
             .stdout(Stdio::piped())
             .spawn()
-            .expect("the emulator starts");
+            .expect("the program starts");
         let requests = child.stdin.take().expect("a pipe");
         let answers = child.stdout.take().expect("a pipe");
-        Far {
+        Fenced {
             child,
             requests,
             answers,
