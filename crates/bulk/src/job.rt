@@ -13,26 +13,26 @@ pub enum Order {
     Nothing,
 }
 
-#[derive(Drop)]
+#[derive(Clone, Copy)]
 pub struct Job {
     pub inserts: Order,
     pub deletes: Order,
     pub pairs: usize,
 }
 
-#[derive(Drop)]
+#[derive(Clone, Copy)]
 pub enum Line {
     Asked(Job),
     Malformed,
 }
 
-#[derive(Drop)]
+#[derive(Clone, Copy)]
 enum Letter {
     Is(Order),
     Other,
 }
 
-#[derive(Drop)]
+#[derive(Clone, Copy)]
 enum Decimal {
     Of(usize),
     Not,

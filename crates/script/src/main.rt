@@ -42,7 +42,7 @@ struct Carried {
 }
 
 // What the reads left, and how many there were.
-#[derive(Drop)]
+#[derive(Clone, Copy)]
 struct Reads {
     carried: Carried,
     turns: usize,
