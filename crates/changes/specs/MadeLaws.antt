@@ -9,7 +9,6 @@ use Rattle.layout.specs.Presumed.{Presumed}
 use Rattle.layout.specs.Steps.{Step}
 use Rattle.layout.specs.declared.Header.{Header}
 use Rattle.lists.specs.Part.{put}
-use Rattle.model.specs.Answers.{accepted, refused}
 use Rattle.model.specs.Leaves.{Node}
 use Rattle.model.specs.declared.Refusal.{Refusal}
 use Rattle.order.specs.Bytes.{Bytes}

@@ -5,7 +5,7 @@ use Rattle.std.proofs.Common.{◌∙◌, ap, arith}
 use Rattle.changes.specs.Outcomes.{CanWriteOld, WroteOld}
 use Rattle.layout.specs.declared.Header.{Header}
 use Rattle.lists.proofs.PartLaws.{length-part}
-use Rattle.lists.specs.Part.{part, put}
+use Rattle.lists.specs.Part.{put}
 use Rattle.spots.specs.Spots.{SpotRead}
 use Rattle.spots.specs.declared.Pieced.{Pieced}
 use Rattle.spots.specs.declared.Spot.{Spot}

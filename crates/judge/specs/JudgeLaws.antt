@@ -14,7 +14,7 @@ use Rattle.model.specs.Leaves.{Node, pairs_of}
 use Rattle.model.specs.LimitLaws.{arena_limit_fits, key_limit_fits, pool_limit_fits, value_limit_fits}
 use Rattle.model.specs.Limits.{key_limit, value_limit}
 use Rattle.model.specs.Map.{Pair, lookup, pair, put}
-use Rattle.model.specs.Place.{at, gap, gap_lookup, place-lookup}
+use Rattle.model.specs.Place.{gap_lookup, place-lookup}
 use Rattle.model.specs.Rules.{insert_rule}
 use Rattle.model.specs.declared.Refusal.TheVariants.{LongKey, LongValue, NoLeaf, NoRoom, ShortOutput}
 use Rattle.order.specs.Bytes.{Bytes}

@@ -16,7 +16,6 @@ use Rattle.spots.specs.KeySpots.{AtSpot, InGap}
 use Rattle.spots.specs.Spots.{SpotIn}
 use Rattle.spots.specs.declared.Spot.{Spot}
 use Rattle.words.specs.Words.{word_count}
-use Rattle.judge.specs.declared.Fit.{Fit}
 use Rattle.judge.specs.declared.Fit.TheVariants.{Full, Slack}
 use Rattle.judge.specs.declared.Judged.{Judged}
 use Rattle.judge.specs.declared.Judged.TheVariants.{Insert, Refuse, Replace}

@@ -23,7 +23,7 @@ use Rattle.order.specs.CommonLaws.{common_front, common_right}
 use Rattle.route.specs.RouteLaws.{low_key_at, low_key_is, routed, upper_is}
 use Rattle.route.specs.Routes.{UpperRead, leaf_at, low_place, upper_of}
 use Rattle.spots.specs.SpotLaws.{spot_in_list}
-use Rattle.spots.specs.Spots.{SpotIn, SpotRead}
+use Rattle.spots.specs.Spots.{SpotRead}
 use Rattle.spots.specs.declared.Pieced.{Pieced}
 use Rattle.spots.specs.declared.Spot.{Spot}
 use Rattle.words.specs.Words.{LowKeyUnpacked}

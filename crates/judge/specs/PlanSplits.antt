@@ -10,7 +10,7 @@ use Rattle.std.proofs.Math.Path.{◌≡◌, ap, refl}
 use Rattle.std.proofs.Math.Decide.{dec_lt}
 use Rattle.std.proofs.Math.ListN.{drop, take}
 use Rattle.layout.specs.declared.Header.{Header}
-use Rattle.model.specs.Answers.{accepted, long_key, long_value, no_leaf, no_room, short, size_of}
+use Rattle.model.specs.Answers.{long_key, long_value, no_leaf, no_room, short, size_of}
 use Rattle.model.specs.Charge.{charge}
 use Rattle.model.specs.CutLaws.{Cut, cut_order}
 use Rattle.model.specs.Good.{Bounds, Tiles}

@@ -8,7 +8,7 @@ use Rattle.std.proofs.Math.ListN.{get_or, length}
 use Rattle.std.proofs.Math.Seq.{take-take}
 use Rattle.layout.specs.Buffers.{Buffers, low_at, low_word, pair_at, slot_words, suffix_at, value_at, value_place}
 use Rattle.layout.specs.Lays.{LaysLeaf, buffers}
-use Rattle.layout.specs.LaysParts.{WordInside, suffix-length, value_length}
+use Rattle.layout.specs.LaysParts.{WordInside, suffix-length}
 use Rattle.layout.specs.LaysWords.{holds_at, holds_inside, leaf_slots, pair_at_lem, slot_at}
 use Rattle.layout.specs.Places.{place_of}
 use Rattle.layout.specs.PlacesLaws.{holds_word}

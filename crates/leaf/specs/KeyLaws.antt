@@ -6,7 +6,6 @@ use Rattle.leaf.specs.Keys.{KeyAt, PrefixOf, UpperAt, key_at, key_part}
 use Rattle.leaf.specs.declared.Upper.{Upper}
 use Rattle.leaf.specs.declared.Upper.TheVariants.{At, Nothing}
 use Rattle.lists.proofs.PartLaws.{length-part, take-drop}
-use Rattle.model.specs.Place.{at}
 use Rattle.order.specs.Bytes.{common}
 use Rattle.order.specs.CommonLaws.{common_left, common_right}
 use Rattle.words.specs.declared.LowKey.{LowKey}

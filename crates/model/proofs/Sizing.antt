@@ -14,7 +14,6 @@ use Rattle.model.specs.Leaves.{Node, owned, pairs_of}
 use Rattle.model.specs.Map.{lookup, Pair, put}
 use Rattle.model.proofs.OwnerLaws.{tiles_first}
 use Rattle.model.proofs.PairLaws.{insert_pairs}
-use Rattle.model.specs.Place.{at}
 use Rattle.model.specs.Rules.{insert_rule}
 use Rattle.model.specs.LeafCuts.{cuts, uncut}
 use Rattle.model.proofs.SizeLaws.{cutting, insert_count}

@@ -1,5 +1,5 @@
 -- The leaf lists that calls within K and V (here kmost and vmost) make from a fresh one.
-use Rattle.std.specs.Prelude.{◌≤◌, ℕ, true, List, [], length}
+use Rattle.std.specs.Prelude.{◌≤◌, ℕ, true, List, length}
 use Rattle.model.specs.Good.{Bounds}
 use Rattle.model.specs.Leaves.{Node}
 use Rattle.model.specs.Rules.{clear_rule, fresh, insert_rule, remove_rule}

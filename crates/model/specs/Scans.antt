@@ -1,6 +1,5 @@
 -- Words for the first pair in a range: a pair out of it, the first of two answers, and a bound that has a key.
 use Rattle.std.specs.Prelude.{false}
-use mathlib.Core.List.{[]}
 use Rattle.std.proofs.Math.Option.{Option, none, some}
 use Rattle.std.proofs.Math.Path.{◌≡◌}
 use Rattle.model.specs.Map.{Pair, in_range}

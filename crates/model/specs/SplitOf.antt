@@ -1,6 +1,6 @@
 -- Demand 3's split rule: how an insert that makes F pairs leaves its leaf.
 use Rattle.std.specs.Prelude.{◌<◌, ◌≤◌, ℕ, ◌≡◌, length}
-use mathlib.Core.List.{List, [], ◌++◌, ◌∷◌}
+use mathlib.Core.List.{List, ◌++◌, ◌∷◌}
 use Rattle.lists.specs.All.{All}
 use Rattle.model.specs.Leaves.{Node, node, owned, with_pairs}
 use Rattle.model.specs.Map.{Below, From, Pair, put}

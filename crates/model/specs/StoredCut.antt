@@ -1,5 +1,5 @@
 -- The stored pairs cut first, and the new pair then put into the half that owns it.
-use Rattle.std.specs.Prelude.{◌-◌, ℕ, drop, take}
+use Rattle.std.specs.Prelude.{ℕ, drop, take}
 use mathlib.Core.List.{List, [], ◌∷◌}
 use Rattle.model.specs.Leaves.{Node, node, with_pairs}
 use Rattle.model.specs.Map.{put}

@@ -10,7 +10,7 @@ use Rattle.layout.specs.Presumed.{Index, Presumed}
 use Rattle.layout.specs.UsedLaws.{length_same}
 use Rattle.layout.specs.declared.Header.{Header}
 use Rattle.leaf.specs.declared.Leaf.{Leaf}
-use Rattle.model.specs.Charge.{charge, stored}
+use Rattle.model.specs.Charge.{stored}
 use Rattle.model.specs.Good.{limits}
 use Rattle.model.specs.Leaves.{Node, node, with_pairs}
 use Rattle.model.specs.LimitLaws.{arena_limit_fits, fanout_limit_fits, fanout_three, key_limit_fits, pool_limit_fits, value_limit_fits}

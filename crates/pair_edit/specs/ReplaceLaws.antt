@@ -15,7 +15,6 @@ use Rattle.lists.specs.All.{all_at}
 use Rattle.lists.proofs.PartLaws.{length-put}
 use Rattle.model.specs.Charge.{charge}
 use Rattle.model.specs.Good.{Bounds, Fits, Tiles, Within, limits}
-use Rattle.model.specs.LeafViews.{full}
 use Rattle.model.specs.Leaves.{Node, node, owned, owner, pairs_of, with_pairs}
 use Rattle.model.specs.LimitLaws.{fanout_three}
 use Rattle.model.specs.Map.{Pair, lookup, pair, put}
@@ -31,7 +30,6 @@ use Rattle.model.proofs.TileLaws.{insert_tiles}
 use Rattle.order.specs.Bytes.{Bytes}
 use Rattle.pair_edit.specs.OldLaws.{around_leaf, edited_lays, leaf_region, spot_found, spot_in, spot_key, spot_leaf, spot_listed, spot_listed_dir, spot_owned, spot_slot}
 use Rattle.pair_edit.specs.PairEdits.{CanReplace, ReplacedPair}
-use Rattle.pair_edit.specs.PairEdits as asked
 use Rattle.route.specs.RouteLaws.{owner_pairs}
 use Rattle.route.specs.Routes.{leaf_at}
 use Rattle.slots.specs.Edits.{Replaced, Replaces, slot_of, valued}

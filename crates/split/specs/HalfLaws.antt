@@ -1,7 +1,7 @@
 -- One half's keys shortened: the half's low key and upper key are read where the leaf list is laid out at any prefix lengths, and the leaf list
 -- laid out then is the same, with L2's prefix length for that half.
 -- Assumes nothing.
-use Rattle.std.specs.Prelude.{◌+◌, ◌<◌, suc, ℕ, List, [], ◌++◌, ◌∷◌, ◌≡◌, drop, get_or, length, take}
+use Rattle.std.specs.Prelude.{◌<◌, suc, ℕ, List, [], ◌++◌, ◌∷◌, ◌≡◌, drop, get_or, length, take}
 use Rattle.std.proofs.Math.Option.{some}
 use Rattle.std.proofs.Common.{◌∙◌, ap, ap₂, sym, get_or-take, length-take-le}
 use native.Mathlib.Omega.{arith}

@@ -1,7 +1,7 @@
 -- A list in which one element became two: what stands at the two places, ahead of them and behind them; and prefix lengths so, changed one after
 -- the other.
 -- Assumes nothing.
-use Rattle.std.specs.Prelude.{◌<◌, ◌+◌, suc, ℕ, List, [], ◌++◌, ◌∷◌, ◌≡◌, drop, get_or, length, take}
+use Rattle.std.specs.Prelude.{◌<◌, suc, ℕ, List, [], ◌++◌, ◌∷◌, ◌≡◌, drop, get_or, length, take}
 use Rattle.std.proofs.Math.Option.{some}
 use Rattle.std.proofs.Common.{◌∙◌, ap, sym, arith, length-append, drop_at, length-take-le, take_at}
 use Rattle.std.proofs.Math.Seq.{append_snoc, split_at}

@@ -15,7 +15,7 @@ use Rattle.model.specs.Leaves.{Node, Spans, Under, node, prefix_length, with_pai
 use Rattle.model.specs.LimitLaws.{arena_limit_fits, fanout_three, key_limit_small, pool_limit_fits}
 use Rattle.model.proofs.Numbers.{lowest_below, lowest_free_lem, unused}
 use Rattle.model.proofs.OwnerLaws.{tiled_at}
-use Rattle.model.specs.PrefixLaws.{span_long, span_prefix}
+use Rattle.model.specs.PrefixLaws.{span_prefix}
 use Rattle.model.specs.Rules.{lowest_free}
 use Rattle.model.proofs.StoredLaws.{prefix_grows}
 use Rattle.numbers.specs.Free.{FreeRead}

@@ -1,6 +1,6 @@
 -- What `get` and `leaf_at` have to show, from the key's place in the leaf that owns it, and from a leaf that was read.
 -- Assumes nothing.
-use Rattle.std.specs.Prelude.{◌+◌, ◌-◌, ◌<◌, ◌≤◌, suc, zero, ℕ, List, [], ◌∷◌, ◌≡◌, refl, get_or, length}
+use Rattle.std.specs.Prelude.{◌+◌, ◌<◌, ◌≤◌, suc, zero, ℕ, List, [], ◌∷◌, ◌≡◌, refl, get_or, length}
 use Rattle.std.proofs.Math.Option.{Option, none, some}
 use Rattle.std.proofs.Common.{◌∙◌, ap, arith, le-ltb, lt-ltb}
 use Rattle.layout.specs.Buffers.{low_word}

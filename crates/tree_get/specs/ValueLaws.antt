@@ -12,7 +12,7 @@ use Rattle.model.specs.Answers.{Answer, accepted, answer_code, contains_answer, 
 use Rattle.model.specs.LeafViews.{fails, holds, truth}
 use Rattle.model.specs.Leaves.{Node, pairs_of}
 use Rattle.model.specs.Map.{lookup}
-use Rattle.model.specs.Place.{at, place}
+use Rattle.model.specs.Place.{place}
 use Rattle.model.specs.declared.Refusal.{Refusal}
 use Rattle.order.specs.Bytes.{Bytes}
 use Rattle.route.specs.Lookups.{Lies, value_lies}

@@ -6,7 +6,6 @@ use Rattle.std.specs.Prelude.{ℕ, ◌≤◌, List, ◌≡◌, refl, length}
 use Rattle.std.proofs.Math.Option.{Option, none, some}
 use Rattle.std.proofs.Common.{ap, subst, sym, ◌∙◌, ltb-false}
 use Rattle.changes.specs.Outcomes.{CanWriteOld, ChangedBy, WroteOld, lent, old_bytes, old_told, value_in}
-use Rattle.changes.specs.declared.Changed.{Changed}
 use Rattle.changes.specs.declared.Old.TheVariants.{Nothing, Refused, Value}
 use Rattle.judge.specs.Judges.{Accepts, Judges, Replaces}
 use Rattle.judge.specs.declared.Fit.{Fit}

@@ -10,7 +10,7 @@ use Rattle.model.specs.Charge.{charge}
 use Rattle.model.specs.Leaves.{Node, with_pairs}
 use Rattle.model.specs.Map.{pair, remove}
 use Rattle.model.proofs.OwnerLaws.{tiled_at}
-use Rattle.model.specs.Place.{gap_lookup, place, place-lookup}
+use Rattle.model.specs.Place.{gap_lookup, place-lookup}
 use Rattle.model.specs.Rules.{insert_rule, remove_rule}
 use Rattle.order.specs.Bytes.{Bytes}
 use Rattle.pair_edit.specs.PairEdits.{CanInsert, CanRemove, CanReplace, InsertedPair, Inserts, RemovedPair, ReplacedPair}

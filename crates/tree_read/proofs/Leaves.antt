@@ -15,7 +15,6 @@ use Rattle.leaf.specs.declared.Upper.TheVariants.{At, Nothing}
 use Rattle.lists.specs.Exact.{Exact, exact_ltb, exact_yes}
 use Rattle.lists.specs.Part.{part}
 use Rattle.model.specs.Leaves.{Under, prefix_length}
-use Rattle.model.specs.Place.{at}
 use Rattle.order.specs.Bytes.{◌≺◌}
 use Rattle.tree_read.specs.Check.{NotEmpty, behind, low_end}
 use Rattle.tree_read.specs.CheckCode.{LeafAt, LeafRest, LeafSum, PairsAt, PairsOkAt, PairsRead, PairsSum, lent}

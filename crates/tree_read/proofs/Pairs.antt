@@ -11,7 +11,6 @@ use Rattle.leaf.specs.Keys.{upper_part}
 use Rattle.leaf.specs.declared.Upper.{Upper}
 use Rattle.lists.specs.Part.{part}
 use Rattle.model.specs.Leaves.{Under}
-use Rattle.model.specs.Place.{at}
 use Rattle.tree_read.proofs.Rest.{rest_cons}
 use Rattle.tree_read.specs.Check.{RunPairs, last_suffix, word_end}
 use Rattle.tree_read.specs.CheckCode.{RestRead, FirstOk, PairsAt, PairsOkAt, PairsSum, RestOk, RestSum, rest_of}

@@ -10,7 +10,6 @@ use Rattle.layout.specs.Buffers.{suffix_at}
 use Rattle.lists.specs.Part.{part}
 use Rattle.lists.proofs.PartLaws.{part-cons}
 use Rattle.model.specs.Charge.{charge}
-use Rattle.model.specs.Place.{at}
 use Rattle.tree_read.specs.Check.{RunPairs, end_after, word_end, words_charge}
 use Rattle.tree_read.specs.CheckCode.{Follows, RestSum, RestOk, Rested, rest_of}
 use Rattle.words.specs.Words.{word_suffix, word_value}

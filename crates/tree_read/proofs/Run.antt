@@ -17,7 +17,6 @@ use Rattle.leaf.specs.declared.Upper.TheVariants.{At, Nothing}
 use Rattle.lists.specs.Exact.{Exact, exact_iff, exact_no, refuted}
 use Rattle.model.specs.LimitLaws.{fanout_limit_fits, pool_limit_fits}
 use Rattle.model.specs.Limits.{Sizes, arena_limit, fanout_least, fanout_limit, pool_least, pool_limit}
-use Rattle.model.specs.Place.{at}
 use Rattle.tree_read.specs.Check.{charge_of, count_of, LowOk, RunLeaves, upper_of}
 use Rattle.tree_read.specs.CheckCode.{LeavesAt, LeavesSum, StepRead, LeafAt, LeafRead, LeafRest, LeafSum, LowKnown, LowRead, NextRead, StepAt, Stepped, lent, low_of_upper}
 use Rattle.tree_read.specs.declared.check.Low.{Low}

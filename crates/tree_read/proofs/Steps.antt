@@ -16,7 +16,6 @@ use Rattle.lists.specs.Exact.{exact_not, Exact, exact_iff, exact_no, exact_yes, 
 use Rattle.lists.specs.Part.{part}
 use Rattle.model.specs.Leaves.{Under}
 use Rattle.model.specs.Limits.{key_limit, value_limit}
-use Rattle.model.specs.Place.{at}
 use Rattle.order.specs.Bytes.{◌≺◌}
 use Rattle.order.specs.Compared.{Compared, compared_equal, compared_greater, compared_less}
 use Rattle.order.specs.OrderLaws.{below_asym, upto_of_eq}

@@ -12,7 +12,6 @@ use Rattle.layout.specs.declared.Header.{Header}
 use Rattle.lists.specs.Exact.{Exact, exact_iff, exact_no, refuted}
 use Rattle.model.specs.LimitLaws.{fanout_three, pool_limit_fits}
 use Rattle.model.specs.Limits.{Sizes}
-use Rattle.model.specs.Place.{at}
 use Rattle.tree_read.proofs.Run.{drop_next}
 use Rattle.tree_read.specs.Check.{LowOk, Passes, RunLeaves}
 use Rattle.tree_read.specs.CheckCode.{LeavesAt, LeavesRead, LeavesSum, Shaped, lent}

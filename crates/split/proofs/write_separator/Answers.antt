@@ -4,7 +4,6 @@ use Rattle.split.specs.SeparatorLaws.{new_fits, new_written, pieces_fit, reach, 
 use Rattle.split.specs.SeparatorLaws.StoredFirst.{new_left, new_later}
 use mathlib.Core.Logic.{inl, inr}
 use native.Mathlib.Omega.{arith}
-use borrow.Author.Tests.{eqb-false, eqb-true}
 use Rattle.split.proofs.write_separator.Goals as goal
 
 pub copy_bytes-requires : goal.copy_bytes-requires

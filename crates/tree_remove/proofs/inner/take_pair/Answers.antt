@@ -1,6 +1,5 @@
 -- `inner::take_pair` meets its contract.
 -- Assumes nothing.
-use mathlib.Core.Logic.{inl, inr}
 use Rattle.tree_remove.specs.TakeLaws.{take_last, take_left, take_merged, take_merges, take-place, take_small}
 use native.Mathlib.Omega.{arith}
 use Rattle.tree_remove.proofs.inner.take_pair.Goals as goal
