@@ -1,6 +1,6 @@
 -- The fronts of the program's buffers, lent and come back: from what stands in the buffers to an index that has all of its own, and back.
 -- Assumes nothing.
-use Rattle.std.specs.Prelude.{ℕ, ◌+◌, ◌*◌, ◌≤◌, Bool, cond, false, true, List, ◌++◌, ◌≡◌, refl, ltb, drop, length, take}
+use Rattle.std.specs.Prelude.{ℕ, ◌*◌, ◌≤◌, Bool, cond, false, true, List, ◌++◌, ◌≡◌, refl, ltb, drop, length, take}
 use Rattle.std.proofs.Common.{mul-le-mul, arith, ltb-false, sym, ap, subst, ◌∙◌, take-append-drop, length-take-le, take_at}
 use Rattle.std.proofs.Math.Option.{Option}
 use Rattle.layout.specs.Lays.{Holds}

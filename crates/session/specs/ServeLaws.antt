@@ -7,7 +7,7 @@ use Rattle.std.proofs.Math.Option.{Option, none, some}
 use Rattle.answers.specs.AnswerLaws.{wrote_is}
 use Rattle.answers.specs.Answers.{Wrote, answered}
 use Rattle.answers.specs.Answers as said
-use Rattle.changes.specs.Outcomes.{ChangedBy, Lent, lent, old_bytes, old_told}
+use Rattle.changes.specs.Outcomes.{ChangedBy, Lent, old_bytes, old_told}
 use Rattle.changes.specs.declared.Changed.{Changed}
 use Rattle.changes.specs.declared.Old.{Old}
 use Rattle.changes.specs.declared.Old.TheVariants.{Value}

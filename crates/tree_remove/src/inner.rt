@@ -21,7 +21,8 @@ fn take_pair(h: Header, dir: &mut [u32], slots: &mut [u64], arena: &mut [u8], t:
 {
     let j = t.leaf;
     let r = remove_pair(h, dir, slots, arena, t);
-    if pair_count(dir[j]) == 0 && j + 1 < r.leaves {
+    let is_empty = pair_count(dir[j]) == 0;
+    if is_empty && j + 1 < r.leaves {
         return merge_leaf(r, dir, slots, arena, j);
     }
     r

@@ -3,7 +3,7 @@
 use Rattle.tree_remove.specs.TakeLaws.{take_last, take_left, take_merged, take_merges, take-place, take_small}
 use native.Mathlib.Omega.{arith}
 use Rattle.tree_remove.proofs.inner.take_pair.Goals as goal
-use Rattle.tree_remove.proofs.inner.take_pair.Goals.{else-pair_count-eq0-via-then-pair_count-eq0+else-j-r, else-pair_count-eq0-via-else-pair_count-eq0}
+use Rattle.tree_remove.proofs.inner.take_pair.Goals.{else-is_empty-via-then-is_empty+else-j-r, else-is_empty-via-else-is_empty}
 
 pub remove_pair-r-requires : goal.remove_pair-r-requires
 remove_pair-r-requires c = c.requires
@@ -18,14 +18,14 @@ pub overflow_add-j : goal.overflow_add-j
 overflow_add-j c = omega (arith, take_small c.requires)
 
 pub merge_leaf-requires : goal.merge_leaf-requires
-merge_leaf-requires c = take_merges c.remove_pair-r.ensures c.pair_count.ensures.0 c.if-pair_count-eq0.true c.if-j-r.true c.requires
+merge_leaf-requires c = take_merges c.remove_pair-r.ensures c.pair_count-is_empty.ensures.0 c.if-is_empty.true c.if-j-r.true c.requires
 
 pub returns-then-j-r : goal.returns-then-j-r
-returns-then-j-r c = take_merged c.remove_pair-r.ensures c.pair_count.ensures.0 c.if-pair_count-eq0.true c.if-j-r.true c.merge_leaf.ensures
+returns-then-j-r c = take_merged c.remove_pair-r.ensures c.pair_count-is_empty.ensures.0 c.if-is_empty.true c.if-j-r.true c.merge_leaf.ensures
 
 pub returns : goal.returns
 returns c =
-    elim c.else-pair_count-eq0.branch [
-      | else-pair_count-eq0-via-then-pair_count-eq0+else-j-r w ↦ take_last c.remove_pair-r.ensures w.if-j-r.false
-      | else-pair_count-eq0-via-else-pair_count-eq0 w ↦ take_left c.remove_pair-r.ensures c.pair_count.ensures.0 w.if-pair_count-eq0.false
+    elim c.else-is_empty.branch [
+      | else-is_empty-via-then-is_empty+else-j-r w ↦ take_last c.remove_pair-r.ensures w.if-j-r.false
+      | else-is_empty-via-else-is_empty w ↦ take_left c.remove_pair-r.ensures c.pair_count-is_empty.ensures.0 w.if-is_empty.false
     ]
