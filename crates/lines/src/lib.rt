@@ -142,7 +142,8 @@ fn number(word: &[u8]) -> Decimal
     if 9 < word.len() {
         return Decimal::Not;
     }
-    if word[0] == 48 {
+    let has_leading_zero = word[0] == 48;
+    if has_leading_zero {
         if word.len() == 1 {
             return Decimal::Is(0);
         }

@@ -50,7 +50,8 @@ fn shorten_prefix(slots: &mut [u64], arena: &mut [u8], fanout: usize, d: u32, q:
     requires { (kept ≤ q) × CanRegrow fanout slots.old arena.old d (q - kept) (low_from fanout slots.old d kept) }
     ensures { Regrown fanout slots.old arena.old d (q - kept) (low_from fanout slots.old d kept) slots.new arena.new }
 {
-    if kept < q {
+    let is_shorter = kept < q;
+    if is_shorter {
         let place = low_key_slot(fanout, leaf_number(d));
         let at = place.0;
         let low = unpack_low_key(slots[at]);

@@ -11,10 +11,10 @@ pub returns-then-word-gt9 : goal.returns-then-word-gt9
 returns-then-word-gt9 c = none_long _ c.if-word-gt9.true
 
 pub returns-then-word-eq1 : goal.returns-then-word-eq1
-returns-then-word-eq1 c = is_zero _ c.if-word-eq48.true c.if-word-eq1.true
+returns-then-word-eq1 c = is_zero _ c.if-has_leading_zero.true c.if-word-eq1.true
 
-pub returns-then-word-eq48 : goal.returns-then-word-eq48
-returns-then-word-eq48 c = none_zero _ c.if-word-eq48.true (omega arith)
+pub returns-then-has_leading_zero : goal.returns-then-has_leading_zero
+returns-then-has_leading_zero c = none_zero _ c.if-has_leading_zero.true (omega arith)
 
 pub counted-requires : goal.counted-requires
-counted-requires c = (omega arith, omega arith, c.if-word-eq48.false)
+counted-requires c = (omega arith, omega arith, c.if-has_leading_zero.false)

@@ -24,8 +24,8 @@ overflow_add-from c =
 pub regrow-requires : goal.regrow-requires
 regrow-requires c = can_regrow _ c.requires.1 c.leaf_number.ensures.0 c.low_key_slot-place.ensures c.unpack_low_key-low.ensures
 
-pub returns-then-kept-q : goal.returns-then-kept-q
-returns-then-kept-q c = shortened _ c.leaf_number.ensures.0 c.low_key_slot-place.ensures c.unpack_low_key-low.ensures c.regrow.ensures
+pub returns-then-is_shorter : goal.returns-then-is_shorter
+returns-then-is_shorter c = shortened _ c.leaf_number.ensures.0 c.low_key_slot-place.ensures c.unpack_low_key-low.ensures c.regrow.ensures
 
-pub returns-else-kept-q : goal.returns-else-kept-q
-returns-else-kept-q c = regrown_none (omega arith) c.requires.1
+pub returns-else-is_shorter : goal.returns-else-is_shorter
+returns-else-is_shorter c = regrown_none (omega arith) c.requires.1
