@@ -1,7 +1,7 @@
 #!/usr/bin/env python3
 """Parts the definitions of a crate's specs/ from the laws that rest on them, so that an edit of a definition counts as refused.
 
-usage: python3 split_laws.py        at the top of the repository, once
+usage: python3 split_laws.py [CRATE/FILE..]        at the top of the repository, once; of the table only these rows
 
 rt calls a must-fail edit BAD where an error in specs/ names no declaration, as 'N declarations that depend on `law`, which was rejected'
 does; in proofs/ it does not. So where an edit of a definition makes laws false on which others rest, the laws go to proofs/, and the
@@ -11,37 +11,54 @@ stay as they are, and each import is turned in all crates. It proves nothing: rt
 import glob
 import os
 import re
+import sys
 
-# (crate, file of specs/, the crate that it goes to, the laws' file in proofs/, the file in specs/ that keeps the definitions, that file's
-# head, the definitions). Where there is no laws' file, what is left stays where it stood.
+# (crate, file of specs/, the laws' file in proofs/, the file in specs/ that keeps the definitions, that file's head, the definitions). Without
+# a head the definitions go to the end of a file that is there.
 TABLE = [
-    ("layout", "Order", "lists", None, "Extents", "Parts of a list in order, gaps anywhere.", "Extent extent InOrder"),
-    ("layout", "OrderLaws", "lists", "ExtentLaws", "Extents", "", "end_of total Apart"),
-    ("lists", "Part", "lists", "PartLaws", "Part", "A part of a list, and a list written over a part of another: the two words by which contracts speak of buffers.", "part put"),
-    ("lists", "Fill", "lists", "FillLaws", "Fill", "What a loop that writes a list s over l from `at` on has done after some turns: from the front, and from the back.", "Filling Backing"),
-    ("lists", "Shift", "lists", "Shift", None, "", ""),
-    ("order", "SeparatorLaws", "order", "SeparatorLaws", None, "", ""),
-    ("model", "SizeLaws", "model", "SizeLaws", "LeafCuts", "The low key of the leaf that an insert makes or a remove frees, if there is one.", "insert_cut remove_cut Cutting"),
-    ("model", "FitsLaws", "model", "FitsLaws", None, "", ""),
-    ("model", "GoodLaws", "model", "GoodLaws", None, "", ""),
-    ("model", "RoomLaws", "model", "RoomLaws", None, "", ""),
-    ("model", "RuleEdits", "model", "RuleEdits", None, "", ""),
-    ("model", "FilledLaws", "model", "FilledLaws", None, "", ""),
-    ("model", "PairLaws", "model", "PairLaws", None, "", ""),
-    ("model", "TileLaws", "model", "TileLaws", None, "", ""),
-    ("model", "ClearLaws", "model", "ClearLaws", "ClearEach", "What L8's `clear` is held against: every pair's key removed in turn.", "remove_each first_number"),
-    ("model", "StoredLaws", "model", "StoredLaws", None, "", ""),
-    ("model", "Sizing", "model", "Sizing", "Reached", "The leaf lists that calls within K and V (here kmost and vmost) make from a fresh one.", "bounds Reached"),
-    ("model", "Numbers", "model", "Numbers", None, "", ""),
-    ("model", "OwnerLaws", "model", "OwnerLaws", "SpansAt", "The leaf at a place of the list spans a key.", "SpansAt"),
-    ("model", "ScanLaws", "model", "ScanLaws", "Scans", "Words for the first pair in a range: a pair out of it, the first of two answers, and a bound that has a key.", "Out or_else Closed"),
-    ("model", "SizingRuns", "model", "SizingRuns", None, "", ""),
-    ("model", "SplitInsert", "model", "SplitInsert", "StoredCut", "The stored pairs cut first, and the new pair then put into the half that owns it.", "put_here cut_stored"),
-    ("model", "StartLaws", "model", "StartLaws", "Start", "A scan by its two ends: the pairs from the first past the start on, and where they begin.", "from_start first_before slot_from rest_of"),
-    ("model", "SplitLaws", "model", "SplitLaws", "SplitOf", "Demand 3's split rule: how an insert that makes F pairs leaves its leaf.", "Divided SplitOf"),
-    ("model", "StoredRules", "model", "StoredRules", None, "", ""),
-    ("history", "Kept", "history", "Kept", None, "", ""),
-    ("history", "Example", "history", "Example", None, "", ""),
+    ("layout", "OrderLaws", "OrderLaws", "Order", "", "end_of total Apart"),
+    ("layout", "FrameLaws", "FrameLaws", "Frames", "What a write leaves as it was: words in order, and the words and bytes of a leaf.", "rewritten first_of WordsIn SameBytes SameWords SameLeaf Elsewhere"),
+    ("layout", "AroundLaws", "AroundLaws", "Around", "A leaf list laid out around one leaf: the leaves and words before it, and behind it.", "LaysAround words_before words_behind"),
+    ("layout", "RegionLaws", "RegionLaws", "Regions", "What a leaf owns of directory and slots.", "Owns"),
+    ("layout", "EditLaws", "EditLaws", None, "", ""),
+    ("layout", "DirectoryLaws", "DirectoryLaws", None, "", ""),
+    ("layout", "SlotLaws", "SlotLaws", None, "", ""),
+    ("layout", "SlideLaws", "SlideLaws", None, "", ""),
+    ("layout", "ShiftLaws", "ShiftLaws", "Shifted", "L6: words whose suffixes lose g bytes at the front.", "shifted Leads lowered Preceded"),
+    ("layout", "LaysParts", "LaysParts", "LaysParts", "The parts of a leaf list that is laid out: a slot word's part inside the arena, and what they cover.", "WordInside stored_at Covered"),
+    ("layout", "LaysWords", "LaysWords", "LaysWords", "A slot word as W has it.", "WordGood"),
+    ("layout", "PlacesLaws", "PlacesLaws", None, "", ""),
+    ("layout", "Pieces", "Pieces", "Pieces", "A pair as it lies in the arena, and that each pair of the list lies so.", "pair_in InList Pieces word_at_slot"),
+    ("layout", "Encode", "Encode", "Encode", "A leaf list written as words and bytes.", "Lies pair_bytes leaf_bytes pair_words low_word_of region_head region directory_of Storable Written"),
+    ("layout", "Encoded", "Encoded", "Encoded", "The buffers of an encoded leaf list.", "prefix_before bytes_of slots_of Regions"),
+    ("layout", "EncodedFits", "EncodedFits", "EncodedFits", "Bytes, and a leaf of bytes.", "Octets OctetNode"),
+    ("layout", "Existence", "Existence", "Existence", "Buffers that hold a given leaf list.", "header_of Layout"),
+    ("layout", "Examples", "Examples", "Examples", "A header by its numbers, and blank buffers.", "header Blank"),
+    ("lists", "Part", "PartLaws", "Part", "A part of a list, and a list written over a part of another: the two words by which contracts speak of buffers.", "part put"),
+    ("lists", "Fill", "FillLaws", "Fill", "What a loop that writes a list s over l from `at` on has done after some turns: from the front, and from the back.", "Filling Backing"),
+    ("lists", "Shift", "Shift", None, "", ""),
+    ("order", "SeparatorLaws", "SeparatorLaws", None, "", ""),
+    ("model", "SizeLaws", "SizeLaws", "LeafCuts", "The low key of the leaf that an insert makes or a remove frees, if there is one.", "insert_cut remove_cut Cutting"),
+    ("model", "FitsLaws", "FitsLaws", None, "", ""),
+    ("model", "GoodLaws", "GoodLaws", None, "", ""),
+    ("model", "RoomLaws", "RoomLaws", None, "", ""),
+    ("model", "RuleEdits", "RuleEdits", None, "", ""),
+    ("model", "FilledLaws", "FilledLaws", None, "", ""),
+    ("model", "PairLaws", "PairLaws", None, "", ""),
+    ("model", "TileLaws", "TileLaws", None, "", ""),
+    ("model", "ClearLaws", "ClearLaws", "ClearEach", "What L8's `clear` is held against: every pair's key removed in turn.", "remove_each first_number"),
+    ("model", "StoredLaws", "StoredLaws", None, "", ""),
+    ("model", "Sizing", "Sizing", "Reached", "The leaf lists that calls within K and V (here kmost and vmost) make from a fresh one.", "bounds Reached"),
+    ("model", "Numbers", "Numbers", None, "", ""),
+    ("model", "OwnerLaws", "OwnerLaws", "SpansAt", "The leaf at a place of the list spans a key.", "SpansAt"),
+    ("model", "ScanLaws", "ScanLaws", "Scans", "Words for the first pair in a range: a pair out of it, the first of two answers, and a bound that has a key.", "Out or_else Closed"),
+    ("model", "SizingRuns", "SizingRuns", None, "", ""),
+    ("model", "SplitInsert", "SplitInsert", "StoredCut", "The stored pairs cut first, and the new pair then put into the half that owns it.", "put_here cut_stored"),
+    ("model", "StartLaws", "StartLaws", "Start", "A scan by its two ends: the pairs from the first past the start on, and where they begin.", "from_start first_before slot_from rest_of"),
+    ("model", "SplitLaws", "SplitLaws", "SplitOf", "Demand 3's split rule: how an insert that makes F pairs leaves its leaf.", "Divided SplitOf"),
+    ("model", "StoredRules", "StoredRules", None, "", ""),
+    ("history", "Kept", "Kept", None, "", ""),
+    ("history", "Example", "Example", None, "", ""),
 ]
 WORD = re.compile(r"[^\s(){}.;,@\"«»\[\]|]+")
 USE = re.compile(r"(?m)^( *(?:ghost )?(?:pub )?use )Rattle\.(\w+)\.specs\.(\w+)\.\{([^}]*)\}(;?)\n")
@@ -145,9 +162,11 @@ def needed(uses, body):
     return out
 
 
-def main():
+def main(only):
     where = {}
-    for crate, file, to, laws, kept, head, names in TABLE:
+    for crate, file, laws, kept, head, names in TABLE:
+        if only and f"{crate}/{file}" not in only:
+            continue
         path = f"crates/{crate}/specs/{file}.antt"
         top, uses, body = parts(read(path))
         names = names.split()
@@ -156,8 +175,8 @@ def main():
         if sorted(set(names) - set(found)):
             raise SystemExit(f"split_laws: {path}: not found: {set(names) - set(found)}")
         for n in found:
-            where[crate, file, n] = f"Rattle.{to}.specs.{kept}"
-        where[crate, file, None] = f"Rattle.{to}.proofs.{laws}" if laws else f"Rattle.{crate}.specs.{file}"
+            where[crate, file, n] = f"Rattle.{crate}.specs.{kept}"
+        where[crate, file, None] = f"Rattle.{crate}.proofs.{laws}"
         own = []
         if kept:
             defs, last = [], []
@@ -166,29 +185,24 @@ def main():
                     defs += module
                 defs += block + [""]
                 last = module
-            own = [f"use Rattle.{to}.specs.{kept}.{{{', '.join(found)}}}"]
-            new = f"crates/{to}/specs/{kept}.antt"
+            own = [f"use Rattle.{crate}.specs.{kept}.{{{', '.join(found)}}}"]
+            new = f"crates/{crate}/specs/{kept}.antt"
             if head:
                 text = [f"-- {head}", *needed(uses, defs), "", *defs]
             else:
-                text = [*read(new).split("\n"), *defs]
+                first, had, rest = parts(read(new))
+                text = [*first, *had, *[u for u in needed(uses, defs) if u not in had], *rest, *defs]
             write(new, "\n".join(text).rstrip("\n") + "\n")
-        rest = "\n".join([*top, *needed(uses + own, left), *left]).rstrip("\n") + "\n"
-        write(f"crates/{to}/proofs/{laws}.antt" if laws else path, rest)
-        if laws and (kept != file or to != crate):
+        write(f"crates/{crate}/proofs/{laws}.antt", "\n".join([*top, *needed(uses + own, left), *left]).rstrip("\n") + "\n")
+        if kept != file:
             os.remove(path)
-        stays = [] if laws else [f"pub mod {file}"]
         lib = f"crates/{crate}/specs/Lib.antt"
         was = read(lib).split("\n")
         at = next(i for i, l in enumerate(was) if l.split()[-1:] == [file])
-        was[at : at + 1] = stays + ([f"pub mod {kept}"] if kept and to == crate else [])
+        was[at : at + 1] = [f"pub mod {kept}"] if kept and head else []
         write(lib, "\n".join(was))
-        if kept and to != crate and head:
-            lib = f"crates/{to}/specs/Lib.antt"
-            write(lib, read(lib) + f"pub mod {kept}\n")
-        if laws:
-            lib = f"crates/{to}/proofs/Lib.antt"
-            write(lib, (read(lib) if os.path.isfile(lib) else "") + f"pub mod {laws}\n")
+        lib = f"crates/{crate}/proofs/Lib.antt"
+        write(lib, (read(lib) if os.path.isfile(lib) else "") + f"pub mod {laws}\n")
 
     def turned(m):
         lead, crate, file, names, end = m.groups()
@@ -206,4 +220,4 @@ def main():
             write(f, new)
 
 
-main()
+main(sys.argv[1:])

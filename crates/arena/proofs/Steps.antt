@@ -6,14 +6,16 @@ use mathlib.Core.Path.{◌∙◌, ◌≡◌, ap, refl, subst, sym}
 use native.Mathlib.Omega.{arith}
 use lib.ListN.{get_or, length, set}
 use Rattle.arena.specs.Slides.{Between, CanSlideLow, CanSlidePair, LowBetween, PairBetween, SlidLow, SlidPair, lent, low_word_at, slot_word_at}
-use Rattle.layout.specs.AroundLaws.{LaysAround, low_neighbours, neighbours, words_behind}
+use Rattle.layout.specs.Around.{LaysAround, words_behind}
+use Rattle.layout.proofs.AroundLaws.{low_neighbours, neighbours}
 use Rattle.layout.specs.Buffers.{Buffers, low_word, slot_words}
-use Rattle.layout.specs.EditLaws.{words_long}
-use Rattle.layout.specs.FrameLaws.{first_of}
+use Rattle.layout.proofs.EditLaws.{words_long}
+use Rattle.layout.specs.Frames.{first_of}
 use Rattle.layout.specs.Order.{word_extent}
-use Rattle.lists.proofs.ExtentLaws.{order_top}
-use Rattle.layout.specs.RegionLaws.{Owns, owns_kept}
-use Rattle.layout.specs.SlideLaws.{slide_low, slide_word}
+use Rattle.layout.proofs.OrderLaws.{order_top}
+use Rattle.layout.specs.Regions.{Owns}
+use Rattle.layout.proofs.RegionLaws.{owns_kept}
+use Rattle.layout.proofs.SlideLaws.{slide_low, slide_word}
 use Rattle.lists.proofs.PartLaws.{get_or-part, length-put, put_one}
 use Rattle.lists.specs.Part.{part, put}
 use Rattle.model.specs.Leaves.{Node}

@@ -1,10 +1,10 @@
 -- One part slid: what is asked of the buffers and the new place, the whole buffers at exit, and the leaf list they lay out then.
 use Rattle.std.specs.Prelude.{ℕ, ◌+◌, ◌^◌, ◌<◌, suc, List, [], ◌∷◌, ◌≡◌, get_or, length}
-use Rattle.layout.specs.AroundLaws.{LaysAround, words_before, words_behind}
+use Rattle.layout.specs.Around.{LaysAround, words_before, words_behind}
 use Rattle.layout.specs.Buffers.{Buffers}
-use Rattle.layout.specs.FrameLaws.{WordsIn}
+use Rattle.layout.specs.Frames.{WordsIn}
 use Rattle.layout.specs.Order.{words_of}
-use Rattle.layout.specs.RegionLaws.{Owns}
+use Rattle.layout.specs.Regions.{Owns}
 use Rattle.lists.specs.Part.{part, put}
 use Rattle.model.specs.Leaves.{Node}
 use Rattle.words.specs.Words.{first_slot, low_key_slot, low_key_word, slot_word, word_count, word_leaf, word_offset, word_suffix, word_value}

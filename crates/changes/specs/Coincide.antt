@@ -13,8 +13,9 @@ use Rattle.changes.specs.declared.Old.{Old}
 use Rattle.changes.specs.declared.Old.TheVariants.{Nothing, Refused, Value}
 use Rattle.layout.specs.Buffers.{low_at, low_word, pair_at, slot_words, suffix_at, value_at, value_place}
 use Rattle.layout.specs.Lays.{Holds, LaysLeaf, buffers}
-use Rattle.layout.specs.LaysParts.{WordInside, suffix-length, value_length}
-use Rattle.layout.specs.LaysWords.{holds_at, holds_inside, leaf_slots, pair_at_lem, slot_at}
+use Rattle.layout.specs.LaysParts.{WordInside}
+use Rattle.layout.proofs.LaysParts.{suffix-length, value_length}
+use Rattle.layout.proofs.LaysWords.{holds_at, holds_inside, leaf_slots, pair_at_lem, slot_at}
 use Rattle.layout.specs.declared.Header.{Header}
 use Rattle.lists.specs.All.{all_at}
 use Rattle.lists.specs.Part.{part}

@@ -10,9 +10,9 @@ use lib.ListN.{drop, length, length-set, set, take}
 use Rattle.directory.specs.CutLaws.{left_count, left_leaf, right_count, right_leaf}
 use Rattle.directory.specs.Cuts.{CanCut, CutLeaf, CutList, Cuts, left_word, right_word}
 use Rattle.directory.specs.Used.{lent, used_from, used_to, word_at}
-use Rattle.layout.specs.AroundLaws.{LaysAround}
+use Rattle.layout.specs.Around.{LaysAround}
 use Rattle.layout.specs.Buffers.{suffix_at}
-use Rattle.layout.specs.DirectoryLaws.{cut_leaf, cut_owns_left, cut_owns_right}
+use Rattle.layout.proofs.DirectoryLaws.{cut_leaf, cut_owns_left, cut_owns_right}
 use Rattle.layout.specs.UsedLaws.{used_insert}
 use Rattle.lists.specs.Part.{put, part}
 use Rattle.lists.proofs.PartLaws.{length-put, length-part, put-cons, put_one}

@@ -9,8 +9,9 @@ use lib.ListN.{get_or, length, length-set, set}
 use Rattle.directory.specs.TakeLaws.{taken_count, taken_leaf}
 use Rattle.directory.specs.Takes.{CanTakeOver, TakenList, TakenOver, Takes, taken_word}
 use Rattle.directory.specs.Used.{lent, used_from, used_to, word_at}
-use Rattle.layout.specs.DirectoryLaws.{take_over}
-use Rattle.layout.specs.RegionLaws.{Owns, owns_kept}
+use Rattle.layout.proofs.DirectoryLaws.{take_over}
+use Rattle.layout.specs.Regions.{Owns}
+use Rattle.layout.proofs.RegionLaws.{owns_kept}
 use Rattle.layout.specs.UsedLaws.{used_remove}
 use Rattle.lists.specs.Part.{put, part}
 use Rattle.lists.proofs.PartLaws.{length-put, length-part, part-put_after, put-append, put_one}

@@ -1,9 +1,9 @@
 -- A leaf cut in two: what is asked, the whole buffers at exit, and the leaf list they lay out then.
 use Rattle.std.specs.Prelude.{ℕ, ◌+◌, ◌-◌, ◌^◌, ◌≤◌, ◌<◌, suc, List, [], ◌∷◌, ◌++◌, ◌≡◌, drop, length, take}
 use Rattle.directory.specs.Used.{lent, used_from, used_to, word_at}
-use Rattle.layout.specs.AroundLaws.{LaysAround, words_before, words_behind}
-use Rattle.layout.specs.FrameLaws.{WordsIn}
-use Rattle.layout.specs.RegionLaws.{Owns}
+use Rattle.layout.specs.Around.{LaysAround, words_before, words_behind}
+use Rattle.layout.specs.Frames.{WordsIn}
+use Rattle.layout.specs.Regions.{Owns}
 use Rattle.lists.specs.Part.{part, put}
 use Rattle.model.specs.Leaves.{Node, node, with_pairs}
 use Rattle.order.specs.Bytes.{Bytes}

@@ -1,8 +1,8 @@
 -- A leaf takes over the next one's slot words: what is asked, the whole buffers at exit, and the leaf list they lay out then.
 use Rattle.std.specs.Prelude.{ℕ, ◌+◌, ◌-◌, ◌≤◌, ◌<◌, suc, List, ◌∷◌, ◌++◌, ◌≡◌, length, take}
 use Rattle.directory.specs.Used.{lent, used_from, used_to, word_at}
-use Rattle.layout.specs.AroundLaws.{LaysAround}
-use Rattle.layout.specs.RegionLaws.{Owns}
+use Rattle.layout.specs.Around.{LaysAround}
+use Rattle.layout.specs.Regions.{Owns}
 use Rattle.lists.specs.Part.{part, put}
 use Rattle.model.specs.Leaves.{Node, with_pairs}
 use Rattle.words.specs.Words.{directory_word, first_slot, word_count, word_leaf}

@@ -9,7 +9,8 @@ use Rattle.changes.specs.declared.Old.TheVariants.{Nothing}
 use Rattle.history.specs.Demand3.{sized_accepted}
 use Rattle.history.specs.Histories.{History, Within, begin, insert, map_of, on, state}
 use Rattle.layout.specs.Buffers.{low_at, low_word, pair_at, slot_words, suffix_at, value_at}
-use Rattle.layout.specs.Examples.{Blank, blank_holds, blank_w, header}
+use Rattle.layout.specs.Examples.{Blank, header}
+use Rattle.layout.proofs.Examples.{blank_holds, blank_w}
 use Rattle.layout.specs.Lays.{Holds}
 use Rattle.layout.specs.LaysUnique.{holds_unique}
 use Rattle.lists.specs.Part.{put}

@@ -8,7 +8,8 @@ use Rattle.changes.specs.declared.Changed.{Changed}
 use Rattle.changes.specs.declared.Old.{Old}
 use Rattle.history.specs.Histories.{History, State, Within, begin, clear, create, found, handed, if_not_done, if_refused, insert, leaves_of, lending, map_of, on, read, remove, state}
 use Rattle.layout.specs.Entry.{Entry}
-use Rattle.layout.specs.Examples.{fresh_good, header}
+use Rattle.layout.proofs.Examples.{fresh_good}
+use Rattle.layout.specs.Examples.{header}
 use Rattle.layout.specs.Lays.{Holds, W}
 use Rattle.layout.specs.LaysUnique.{holds_unique}
 use Rattle.layout.specs.Presumed.{Presumed, w_presumed}

@@ -7,8 +7,7 @@ use Rattle.model.specs.Limits.{Sizes}
 use Rattle.model.specs.Good.{Good, limits}
 use Rattle.layout.specs.declared.Header.{Header}
 use Rattle.layout.specs.Buffers.{Buffers, pair_at, slot_words, low_word, low_at}
-use Rattle.lists.specs.Extents.{InOrder}
-use Rattle.layout.specs.Order.{extents}
+use Rattle.layout.specs.Order.{InOrder, extents}
 
 -- the directory word d, at a prefix length, lays out the leaf n
 pub record LaysLeaf (b : Buffers) (prefix d : ℕ) (n : Node) : Type 0 where

@@ -1,6 +1,6 @@
 -- Keys shortened after a split: what is asked, the slot words left, and the leaf list that they lay out then.
 use Rattle.std.specs.Prelude.{ℕ, ◌-◌, ◌^◌, ◌≤◌, ◌<◌, List, map, ◌≡◌, length}
-use Rattle.layout.specs.ShiftLaws.{shifted}
+use Rattle.layout.specs.Shifted.{shifted}
 use Rattle.leaf.specs.Keys.{KeyAt, UpperAt, key_at, upper_at}
 use Rattle.leaf.specs.declared.Upper.{Upper}
 use Rattle.lists.specs.All.{All}

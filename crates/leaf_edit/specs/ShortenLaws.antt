@@ -2,7 +2,7 @@
 -- Assumes nothing.
 use Rattle.std.specs.Prelude.{ℕ, ◌+◌, ◌-◌, ◌≤◌, List, [], ◌∷◌, map, ◌≡◌, refl, length, take}
 use Rattle.std.proofs.Common.{◌∙◌, ap, sym, arith}
-use Rattle.layout.specs.ShiftLaws.{shifted}
+use Rattle.layout.specs.Shifted.{shifted}
 use Rattle.leaf.specs.Keys.{key_at, upper_at}
 use Rattle.leaf.specs.declared.Upper.{Upper}
 use Rattle.leaf.specs.declared.Upper.TheVariants.{Nothing}

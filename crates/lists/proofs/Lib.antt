@@ -1,4 +1,3 @@
-pub mod ExtentLaws
 pub mod PartLaws
 pub mod FillLaws
 pub mod Shift

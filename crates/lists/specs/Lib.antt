@@ -3,4 +3,3 @@ pub mod Part
 pub mod Fill
 pub mod Map
 pub mod Exact
-pub mod Extents

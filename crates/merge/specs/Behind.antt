@@ -2,7 +2,7 @@
 -- asked, and what is left.
 use Rattle.std.specs.Prelude.{ℕ, suc, ◌+◌, ◌*◌, ◌≤◌, ◌<◌, List, ◌++◌, ◌≡◌, length}
 use Rattle.directory.specs.Used.{lent, used_from, used_to, word_at}
-use Rattle.layout.specs.FrameLaws.{WordsIn}
+use Rattle.layout.specs.Frames.{WordsIn}
 use Rattle.layout.specs.Order.{leaf_words, words_of}
 use Rattle.layout.specs.Presumed.{Inner, Presumed}
 use Rattle.layout.specs.declared.Header.{Header}

@@ -5,13 +5,13 @@ use Rattle.std.specs.Prelude.{ℕ, suc, ◌+◌, ◌*◌, List, [], ◌++◌, ma
 use Rattle.std.proofs.Common.{◌∙◌, sym, add-zero, mul-zero, arith, get_or-take}
 use Rattle.std.proofs.Math.Seq.{drop-length, take-length}
 use Rattle.directory.specs.Used.{lent, used_from, used_to, word_at}
-use Rattle.layout.specs.AroundLaws.{around_at, ordered_at, words_before, words_behind}
+use Rattle.layout.proofs.AroundLaws.{around_at, ordered_at}
+use Rattle.layout.specs.Around.{words_before, words_behind}
 use Rattle.layout.specs.Buffers.{Buffers, slot_words}
 use Rattle.layout.specs.Lays.{LaysAt, prefixes_of}
-use Rattle.layout.specs.LaysWords.{leaf_slots}
-use Rattle.layout.specs.Order.{leaf_words, word_extent, words_of}
-use Rattle.lists.specs.Extents.{end_of}
-use Rattle.lists.proofs.ExtentLaws.{order_left, order_right}
+use Rattle.layout.proofs.LaysWords.{leaf_slots}
+use Rattle.layout.specs.Order.{leaf_words, word_extent, words_of, end_of}
+use Rattle.layout.proofs.OrderLaws.{order_left, order_right}
 use Rattle.layout.specs.Presumed.{Presumed}
 use Rattle.layout.specs.declared.Header.{Header}
 use Rattle.model.specs.Leaves.{Node, node}

@@ -4,11 +4,11 @@
 use Rattle.std.specs.Prelude.{ℕ, suc, ◌+◌, ◌-◌, ◌*◌, ◌≤◌, ◌<◌, List, [], ◌++◌, ◌≡◌, drop, get_or, length, take}
 use Rattle.std.proofs.Common.{◌∙◌, ap, subst, sym, arith}
 use Rattle.directory.specs.Used.{lent, used_from, used_to, word_at}
-use Rattle.layout.specs.AroundLaws.{lays_of}
-use Rattle.layout.specs.FrameLaws.{WordsIn}
+use Rattle.layout.proofs.AroundLaws.{lays_of}
+use Rattle.layout.specs.Frames.{WordsIn}
 use Rattle.layout.specs.Lays.{Lays, LaysAt, buffers, prefixes_of}
 use Rattle.layout.specs.LaysLaws.{prefixes_at}
-use Rattle.layout.specs.LaysWords.{holds_long}
+use Rattle.layout.proofs.LaysWords.{holds_long}
 use Rattle.layout.specs.Order.{leaf_words, words_of}
 use Rattle.layout.specs.Presumed.{Presumed}
 use Rattle.layout.specs.declared.Header.{Header}

@@ -3,7 +3,7 @@
 use Rattle.std.specs.Prelude.{◌%◌, ◌+◌, ◌/◌, ◌<◌, ◌^◌, ◌≤◌, suc, zero, ℕ, true, List, [], ◌∷◌, ◌≡◌, refl, get_or, length, replicate, set}
 use Rattle.std.proofs.Common.{◌∙◌, sym, arith, eq-eqb, ne_eqb, length-set}
 use Rattle.std.proofs.lemmas.List.{get_or-replicate, length-replicate}
-use Rattle.layout.specs.LaysWords.{holds_at}
+use Rattle.layout.proofs.LaysWords.{holds_at}
 use Rattle.layout.specs.Presumed.{Presumed}
 use Rattle.layout.specs.declared.Header.{Header}
 use Rattle.model.specs.Leaves.{Node, node}

@@ -5,7 +5,7 @@ use Rattle.std.proofs.Common.{◌∙◌, ap, subst, sym, mul-le-mul, arith, leng
 use Rattle.std.proofs.Math.Seq.{split_at}
 use Rattle.layout.specs.Lays.{LaysAt, prefixes_of}
 use Rattle.layout.specs.LaysLaws.{prefixes_at, prefixes_kept, prefixes_length}
-use Rattle.layout.specs.LaysWords.{holds_long}
+use Rattle.layout.proofs.LaysWords.{holds_long}
 use Rattle.layout.specs.Presumed.{Index, Presumed}
 use Rattle.layout.specs.UsedLaws.{length_same}
 use Rattle.layout.specs.declared.Header.{Header}

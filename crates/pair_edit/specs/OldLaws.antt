@@ -8,7 +8,7 @@ use Rattle.std.proofs.Math.Seq.{split_at}
 use Rattle.layout.specs.Buffers.{Buffers}
 use Rattle.layout.specs.Lays.{Lays, LaysAt, buffers, prefixes_of}
 use Rattle.layout.specs.LaysLaws.{lows_of, prefixes_length, prefixes_same}
-use Rattle.layout.specs.LaysWords.{holds_long, region_in}
+use Rattle.layout.proofs.LaysWords.{holds_long, region_in}
 use Rattle.layout.specs.Pieces.{InList, pair_in}
 use Rattle.layout.specs.Presumed.{Presumed}
 use Rattle.layout.specs.UsedLaws.{length_same}

@@ -8,7 +8,7 @@ use native.Mathlib.Omega.{arith}
 use lib.ListN.{get_or, length}
 use Rattle.directory.specs.Takes.{CanTakeOver, TakenOver}
 use Rattle.layout.specs.Order.{word_extent}
-use Rattle.lists.proofs.ExtentLaws.{order_top}
+use Rattle.layout.proofs.OrderLaws.{order_top}
 use Rattle.regrow.specs.Merge.{CanMerge, Merged, low_from}
 use Rattle.regrow.specs.MergeLaws.{merge_can_regrow, merge_can_take, merge_done}
 use Rattle.regrow.specs.Regrow.{CanRegrow, Regrown, low_word_at, words_at}

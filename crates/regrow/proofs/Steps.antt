@@ -7,9 +7,9 @@ use native.Mathlib.Nat.{add-zero, le_of_suc-le-suc}
 use native.Mathlib.Omega.{arith}
 use lib.ListN.{drop, get_or, length, length-append, length-drop, set, take}
 use lib.Seq.{drop-cons, drop-length}
-use Rattle.layout.specs.FrameLaws.{WordsIn}
+use Rattle.layout.specs.Frames.{WordsIn}
 use Rattle.layout.specs.Order.{word_extent}
-use Rattle.lists.proofs.ExtentLaws.{order_top}
+use Rattle.layout.proofs.OrderLaws.{order_top}
 use Rattle.lists.specs.All.{all_at}
 use Rattle.lists.proofs.PartLaws.{drop-put, get_or-part, get_or-put_before, length-part, part-put_before, put-cons, put-nil, put_one, take-put_le}
 use Rattle.lists.specs.Part.{part, put}

@@ -3,10 +3,10 @@
 use Rattle.std.specs.Prelude.{ℕ, ◌+◌, ◌-◌, ◌*◌, ◌^◌, ◌≤◌, ◌<◌, suc, List, [], ◌∷◌, ◌++◌, ◌≡◌, length, take}
 use Rattle.directory.specs.Takes.{TakenList, taken_word}
 use Rattle.directory.specs.Used.{lent, used_from, used_to, word_at}
-use Rattle.layout.specs.AroundLaws.{LaysAround}
-use Rattle.layout.specs.FrameLaws.{WordsIn}
+use Rattle.layout.specs.Around.{LaysAround}
+use Rattle.layout.specs.Frames.{WordsIn}
 use Rattle.layout.specs.Order.{leaf_words, words_of}
-use Rattle.layout.specs.RegionLaws.{Owns}
+use Rattle.layout.specs.Regions.{Owns}
 use Rattle.lists.specs.All.{All}
 use Rattle.lists.specs.Part.{part, put}
 use Rattle.model.specs.Leaves.{Node}

@@ -13,12 +13,12 @@ use Rattle.std.proofs.Math.ListN.{length, get_or, take}
 use Rattle.std.proofs.Math.Seq.{drop-cons, get_or-take, length-take-le, take-suc}
 use Rattle.directory.specs.Takes.{CanTakeOver, TakenOver, Takes}
 use Rattle.directory.specs.Used.{lent, used_from, used_to, word_at}
-use Rattle.layout.specs.AroundLaws.{around_next, around_prev, around_at, inside_here}
-use Rattle.layout.specs.FrameLaws.{WordsIn}
+use Rattle.layout.proofs.AroundLaws.{around_next, around_prev, around_at, inside_here}
+use Rattle.layout.specs.Frames.{WordsIn}
 use Rattle.layout.specs.LaysLaws.{each_prefixes, each_words}
 use Rattle.layout.specs.Order.{word_extent, leaf_words, words_of}
-use Rattle.lists.proofs.ExtentLaws.{order_top}
-use Rattle.layout.specs.RegionLaws.{owns_kept, owns_at}
+use Rattle.layout.proofs.OrderLaws.{order_top}
+use Rattle.layout.proofs.RegionLaws.{owns_kept, owns_at}
 use Rattle.lists.proofs.PartLaws.{length-part, part-put, put-part}
 use Rattle.lists.specs.Part.{part}
 use Rattle.model.specs.Leaves.{Node}

@@ -8,13 +8,12 @@ use Rattle.std.proofs.Math.Nat.{zero-mul}
 use Rattle.std.proofs.Math.ListN.{length}
 use Rattle.directory.specs.Used.{lent}
 use Rattle.layout.specs.Buffers.{low_at, low_word, pair_at, slot_words, suffix_at, value_at}
-use Rattle.layout.specs.EditLaws.{edit_words, words_long}
-use Rattle.layout.specs.FrameLaws.{SameBytes, WordsIn, all_words}
-use Rattle.lists.specs.Extents.{InOrder}
-use Rattle.layout.specs.Order.{extents, word_extent, words_of}
-use Rattle.lists.specs.Extents.{end_of}
-use Rattle.lists.proofs.ExtentLaws.{order_after, order_append, order_before, order_insert, order_left, order_right, order_top, order_widen}
-use Rattle.layout.specs.RegionLaws.{owns_kept, region_words}
+use Rattle.layout.proofs.EditLaws.{edit_words, words_long}
+use Rattle.layout.specs.Frames.{SameBytes, WordsIn}
+use Rattle.layout.proofs.FrameLaws.{all_words}
+use Rattle.layout.specs.Order.{InOrder, extents, word_extent, words_of, end_of}
+use Rattle.layout.proofs.OrderLaws.{order_after, order_append, order_before, order_insert, order_left, order_right, order_top, order_widen}
+use Rattle.layout.proofs.RegionLaws.{owns_kept, region_words}
 use Rattle.lists.specs.All.{All, all_mono}
 use Rattle.lists.proofs.PartLaws.{length-part, length-put, part-add, part-part, part-put, part-put_after, part-put_before}
 use Rattle.lists.specs.Part.{part, put}

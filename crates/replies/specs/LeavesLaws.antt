@@ -7,7 +7,7 @@ use Rattle.answers.specs.AnswerLaws.{wrote_is, wrote_more}
 use Rattle.answers.specs.Answers.{Room, Wrote, answered}
 use Rattle.answers.specs.Answers as said
 use Rattle.layout.specs.Lays.{Holds, W}
-use Rattle.layout.specs.LaysWords.{holds_at, holds_inside}
+use Rattle.layout.proofs.LaysWords.{holds_at, holds_inside}
 use Rattle.layout.specs.declared.Header.{Header}
 use Rattle.leaf.specs.Keys.{KeyAt, UpperAt, key_at}
 use Rattle.leaf.specs.declared.Upper.{Upper}

@@ -4,13 +4,14 @@ use Rattle.std.specs.Prelude.{ℕ, suc, ◌+◌, ◌≤◌, ◌<◌, List, [], �
 use Rattle.std.proofs.Common.{append_assoc, ◌∙◌, ap, subst, sym, add-one, arith, drop_of_length-le, drop-cons, get_or-take, length-take-le, take-suc}
 use Rattle.std.proofs.lemmas.List.{map-append}
 use Rattle.directory.specs.Used.{lent, used_from, used_to, word_at}
-use Rattle.layout.specs.AroundLaws.{behind_cons, words_behind}
+use Rattle.layout.proofs.AroundLaws.{behind_cons}
+use Rattle.layout.specs.Around.{words_behind}
 use Rattle.layout.specs.Buffers.{Buffers, slot_words}
-use Rattle.layout.specs.EditLaws.{words_long}
-use Rattle.layout.specs.FrameLaws.{WordsIn}
-use Rattle.layout.specs.LaysWords.{slot_at}
+use Rattle.layout.proofs.EditLaws.{words_long}
+use Rattle.layout.specs.Frames.{WordsIn}
+use Rattle.layout.proofs.LaysWords.{slot_at}
 use Rattle.layout.specs.Order.{leaf_words, word_extent, words_of}
-use Rattle.lists.proofs.ExtentLaws.{order_append, order_top}
+use Rattle.layout.proofs.OrderLaws.{order_append, order_top}
 use Rattle.slots.specs.Edits.{Gap}
 use Rattle.words.specs.Words.{word_count, word_offset}
 use Rattle.room.specs.PackLaws.{laid_at}

@@ -3,9 +3,10 @@
 use Rattle.std.specs.Prelude.{ℕ, suc, ◌+◌, ◌≤◌, List, [], ◌∷◌, ◌++◌, map, ◌≡◌, refl, drop, get_or, length, take}
 use Rattle.std.proofs.Common.{append_assoc, append-nil, ◌∙◌, ap, subst, sym, add-one, arith, drop_of_length-le, length-append, drop_at, drop-drop, length-take-le, take_at, take-take}
 use Rattle.layout.specs.Buffers.{Buffers}
-use Rattle.layout.specs.FrameLaws.{SameWords, WordsIn, all_of}
+use Rattle.layout.specs.Frames.{SameWords, WordsIn}
+use Rattle.layout.proofs.FrameLaws.{all_of}
 use Rattle.layout.specs.Order.{leaf_words, word_extent, words_of}
-use Rattle.lists.proofs.ExtentLaws.{order_top, order_total, order_widen}
+use Rattle.layout.proofs.OrderLaws.{order_top, order_total, order_widen}
 use Rattle.lists.specs.All.{All}
 use Rattle.words.specs.Words.{word_count, word_offset}
 use Rattle.room.specs.Leaf.{Down, Up}

@@ -2,10 +2,10 @@
 use Rattle.std.specs.Prelude.{ℕ, suc, ◌^◌, ◌≤◌, ◌<◌, List, ◌≡◌, drop, get_or, length, take}
 use Rattle.arena.specs.Slides.{lent}
 use Rattle.layout.specs.Buffers.{Buffers}
-use Rattle.layout.specs.FrameLaws.{SameWords}
+use Rattle.layout.specs.Frames.{SameWords}
 use Rattle.layout.specs.Lays.{LaysAt}
 use Rattle.layout.specs.Order.{words_of}
-use Rattle.layout.specs.RegionLaws.{Owns}
+use Rattle.layout.specs.Regions.{Owns}
 use Rattle.lists.specs.All.{All}
 use Rattle.model.specs.Leaves.{Node}
 use Rattle.room.specs.Parts.{Tight, sizes}

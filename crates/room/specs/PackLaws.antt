@@ -4,14 +4,16 @@ use Rattle.std.specs.Prelude.{ℕ, suc, ◌+◌, ◌≤◌, ◌<◌, List, [], �
 use Rattle.std.proofs.Common.{append-nil, ◌∙◌, ap, subst, sym, arith, drop_of_length-le, take-append-drop, drop-cons, take-suc, take-take}
 use Rattle.std.proofs.Math.Seq.{split_at}
 use Rattle.arena.specs.Slides.{lent}
-use Rattle.layout.specs.AroundLaws.{around_at, lays_back}
+use Rattle.layout.proofs.AroundLaws.{around_at, lays_back}
 use Rattle.layout.specs.Buffers.{Buffers}
-use Rattle.layout.specs.FrameLaws.{SameWords, all_of}
+use Rattle.layout.specs.Frames.{SameWords}
+use Rattle.layout.proofs.FrameLaws.{all_of}
 use Rattle.layout.specs.Lays.{LaysAt}
 use Rattle.layout.specs.LaysLaws.{each_prefixes, each_words}
-use Rattle.layout.specs.LaysParts.{words_append}
+use Rattle.layout.proofs.LaysParts.{words_append}
 use Rattle.layout.specs.Order.{leaf_words, words_of}
-use Rattle.layout.specs.RegionLaws.{Owns, owns_kept}
+use Rattle.layout.specs.Regions.{Owns}
+use Rattle.layout.proofs.RegionLaws.{owns_kept}
 use Rattle.lists.specs.All.{All, all_take}
 use Rattle.model.specs.Leaves.{Node}
 use Rattle.words.specs.Words.{word_count}

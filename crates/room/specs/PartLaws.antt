@@ -6,16 +6,16 @@ use Rattle.std.proofs.lemmas.List.{map-append}
 use Rattle.std.proofs.Math.Path.{ap}
 use Rattle.std.proofs.Math.Seq.{split_at}
 use Rattle.arena.specs.Slides.{CanSlideLow, CanSlidePair, LowBetween, PairBetween, SlidLow, SlidPair, lent, low_word_at}
-use Rattle.layout.specs.AroundLaws.{low_neighbours, neighbours}
+use Rattle.layout.proofs.AroundLaws.{low_neighbours, neighbours}
 use Rattle.layout.specs.Buffers.{Buffers, low_word, slot_words}
-use Rattle.layout.specs.EditLaws.{words_long}
-use Rattle.layout.specs.FrameLaws.{WordsIn, first_of}
-use Rattle.layout.specs.LaysParts.{total_append}
-use Rattle.layout.specs.LaysWords.{slot_at}
+use Rattle.layout.proofs.EditLaws.{words_long}
+use Rattle.layout.specs.Frames.{WordsIn, first_of}
+use Rattle.layout.proofs.LaysParts.{total_append}
+use Rattle.layout.proofs.LaysWords.{slot_at}
 use Rattle.layout.specs.Order.{leaf_words, word_extent, words_of}
-use Rattle.lists.proofs.ExtentLaws.{order_append}
-use Rattle.layout.specs.RegionLaws.{low_words, low_written, region_ahead, region_behind, region_low}
-use Rattle.layout.specs.SlotLaws.{replace_words}
+use Rattle.layout.proofs.OrderLaws.{order_append}
+use Rattle.layout.proofs.RegionLaws.{low_words, low_written, region_ahead, region_behind, region_low}
+use Rattle.layout.proofs.SlotLaws.{replace_words}
 use Rattle.lists.specs.Part.{put}
 use Rattle.words.specs.Laws.{offset_of_slot, suffix_of_slot, suffix_small, value_of_slot, value_small}
 use Rattle.words.specs.Words.{low_key_slot, low_key_word, slot_word, word_count, word_leaf, word_offset, word_suffix, word_value}

@@ -1,12 +1,11 @@
 -- The parts of one leaf, counted from its low key on: where a part's word stands, parts that lie tight, one part slid.
 use Rattle.std.specs.Prelude.{ℕ, zero, suc, ◌+◌, ◌^◌, ◌≤◌, ◌<◌, List, ◌∷◌, ◌++◌, map, ◌≡◌, drop, get_or, length, take}
 use Rattle.arena.specs.Slides.{Between, lent}
-use Rattle.layout.specs.AroundLaws.{LaysAround}
+use Rattle.layout.specs.Around.{LaysAround}
 use Rattle.layout.specs.Buffers.{Buffers}
-use Rattle.layout.specs.FrameLaws.{SameWords, WordsIn}
-use Rattle.layout.specs.Order.{leaf_words, word_extent, words_of}
-use Rattle.lists.specs.Extents.{total}
-use Rattle.layout.specs.RegionLaws.{Owns}
+use Rattle.layout.specs.Frames.{SameWords, WordsIn}
+use Rattle.layout.specs.Order.{leaf_words, word_extent, words_of, total}
+use Rattle.layout.specs.Regions.{Owns}
 use Rattle.lists.specs.All.{All}
 use Rattle.model.specs.Leaves.{Node}
 use Rattle.words.specs.Words.{first_slot, low_key_slot, slot_word, word_count, word_leaf, word_offset, word_suffix, word_value}

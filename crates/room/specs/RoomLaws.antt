@@ -5,12 +5,12 @@ use Rattle.std.proofs.Common.{append_assoc, ◌∙◌, ap, sym, arith, take-appe
 use Rattle.std.proofs.Math.Seq.{split_at}
 use Rattle.directory.specs.Used.{lent}
 use Rattle.layout.specs.Buffers.{Buffers}
-use Rattle.layout.specs.FrameLaws.{SameWords}
+use Rattle.layout.specs.Frames.{SameWords}
 use Rattle.layout.specs.LaysLaws.{each_words}
-use Rattle.layout.specs.LaysParts.{words_append}
+use Rattle.layout.proofs.LaysParts.{words_append}
 use Rattle.layout.specs.Order.{leaf_words, word_extent, words_of}
-use Rattle.lists.proofs.ExtentLaws.{order_total, order_widen}
-use Rattle.layout.specs.RegionLaws.{owns_at}
+use Rattle.layout.proofs.OrderLaws.{order_total, order_widen}
+use Rattle.layout.proofs.RegionLaws.{owns_at}
 use Rattle.lists.specs.All.{All, all_left, all_right}
 use Rattle.model.specs.Leaves.{node}
 use Rattle.slots.specs.Edits.{Gap}

@@ -4,8 +4,8 @@ use Rattle.std.specs.Prelude.{ℕ, ◌+◌, ◌≤◌, ◌<◌, List, [], ◌∷
 use Rattle.std.proofs.Common.{arith}
 use Rattle.directory.specs.Used.{lent}
 use Rattle.layout.specs.Lays.{LaysAt, buffers, prefixes_of}
-use Rattle.layout.specs.LaysParts.{lays_stored}
-use Rattle.layout.specs.LaysWords.{holds_at, holds_long}
+use Rattle.layout.proofs.LaysParts.{lays_stored}
+use Rattle.layout.proofs.LaysWords.{holds_at, holds_long}
 use Rattle.layout.specs.Presumed.{Presumed}
 use Rattle.layout.specs.declared.Header.{Header}
 use Rattle.lists.specs.All.{All}

@@ -1,10 +1,9 @@
 -- Room made before the i-th slot of the leaf at the directory's place j: what is asked, and what is left. Where the room lies is not said.
 use Rattle.std.specs.Prelude.{ℕ, suc, ◌+◌, ◌^◌, ◌≤◌, ◌<◌, List, [], ◌∷◌, ◌≡◌, length, take}
 use Rattle.directory.specs.Used.{lent, used_from, used_to, word_at}
-use Rattle.layout.specs.AroundLaws.{words_behind}
+use Rattle.layout.specs.Around.{words_behind}
 use Rattle.layout.specs.Lays.{LaysAt}
-use Rattle.layout.specs.Order.{extents}
-use Rattle.lists.specs.Extents.{total}
+use Rattle.layout.specs.Order.{extents, total}
 use Rattle.model.specs.Leaves.{Node}
 use Rattle.slots.specs.Edits.{Gap}
 use Rattle.slots.specs.Whole.{Apart}

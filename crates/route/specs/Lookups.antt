@@ -3,7 +3,8 @@
 use Rattle.std.specs.Prelude.{◌+◌, ◌≤◌, ℕ, List, [], ◌≡◌, refl, length}
 use Rattle.std.proofs.Math.Option.{Option, none, some}
 use Rattle.std.proofs.Common.{◌∙◌, ap, sym, arith}
-use Rattle.layout.specs.Pieces.{InList, pair_in, pieces_of}
+use Rattle.layout.specs.Pieces.{InList, pair_in}
+use Rattle.layout.proofs.Pieces.{pieces_of}
 use Rattle.layout.specs.Places.{place_of}
 use Rattle.layout.specs.Presumed.{Presumed}
 use Rattle.layout.specs.declared.Header.{Header}

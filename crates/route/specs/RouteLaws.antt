@@ -8,7 +8,8 @@ use native.Mathlib.Omega.{arith}
 use Rattle.layout.specs.Buffers.{low_at, low_word, slot_words, suffix_at}
 use Rattle.layout.specs.Lays.{LaysLeaf, buffers}
 use Rattle.layout.specs.LaysParts.{WordInside}
-use Rattle.layout.specs.LaysWords.{WordGood, holds_at, holds_inside, holds_long, word_good}
+use Rattle.layout.specs.LaysWords.{WordGood}
+use Rattle.layout.proofs.LaysWords.{holds_at, holds_inside, holds_long, word_good}
 use Rattle.layout.specs.Order.{leaf_words}
 use Rattle.layout.specs.Presumed.{Presumed}
 use Rattle.layout.specs.declared.Header.{Header}

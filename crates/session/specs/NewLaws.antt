@@ -5,7 +5,7 @@ use Rattle.std.proofs.Common.{arith, inl, inr, sym, ap, subst, ◌∙◌, take-a
 use Rattle.answers.specs.AnswerLaws.{wrote_is}
 use Rattle.answers.specs.Answers.{Wrote}
 use Rattle.model.specs.PassedLaws.{passed_if, same_accepted}
-use Rattle.layout.specs.Examples.{fresh_good}
+use Rattle.layout.proofs.Examples.{fresh_good}
 use Rattle.layout.specs.declared.Header.{Header}
 use Rattle.model.specs.Answers.{Answer, accepted, create_answer, meets_sizes, refused}
 use Rattle.model.specs.Good.{Good, limits}

@@ -1,8 +1,8 @@
 -- One leaf of a leaf list laid out, and that leaf list with this leaf alone changed.
 use Rattle.std.specs.Prelude.{ℕ, ◌+◌, ◌≤◌, ◌<◌, List, length}
-use Rattle.layout.specs.AroundLaws.{LaysAround}
+use Rattle.layout.specs.Around.{LaysAround}
 use Rattle.layout.specs.Buffers.{Buffers}
-use Rattle.layout.specs.RegionLaws.{Owns}
+use Rattle.layout.specs.Regions.{Owns}
 use Rattle.model.specs.Leaves.{Node}
 use Rattle.words.specs.Words.{first_slot, word_count, word_leaf}
 

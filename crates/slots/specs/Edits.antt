@@ -1,9 +1,9 @@
 -- The edits of one leaf's words: what each needs, the buffers it leaves, and what it does to a leaf list that they lay out.
 use Rattle.std.specs.Prelude.{ℕ, suc, ◌+◌, ◌-◌, ◌^◌, ◌≤◌, ◌<◌, List, [], ◌∷◌, ◌++◌, map, ◌≡◌, get_or, length, take, drop}
-use Rattle.layout.specs.AroundLaws.{words_before, words_behind}
+use Rattle.layout.specs.Around.{words_before, words_behind}
 use Rattle.layout.specs.Buffers.{Buffers, value_place}
-use Rattle.layout.specs.FrameLaws.{WordsIn}
-use Rattle.layout.specs.ShiftLaws.{shifted}
+use Rattle.layout.specs.Frames.{WordsIn}
+use Rattle.layout.specs.Shifted.{shifted}
 use Rattle.lists.specs.All.{All}
 use Rattle.lists.specs.Part.{part, put}
 use Rattle.model.specs.Leaves.{with_pairs}

@@ -3,11 +3,13 @@
 use Rattle.std.specs.Prelude.{ℕ, suc, ◌+◌, ◌-◌, ◌^◌, ◌≤◌, ◌<◌, List, [], ◌∷◌, ◌++◌, map, ◌≡◌, refl, get_or, length, take, drop}
 use Rattle.std.proofs.Common.{◌∙◌, ap, sym, arith}
 use Rattle.std.proofs.lemmas.List.{length-map}
-use Rattle.layout.specs.AroundLaws.{LaysAround, inside_here}
+use Rattle.layout.specs.Around.{LaysAround}
+use Rattle.layout.proofs.AroundLaws.{inside_here}
 use Rattle.layout.specs.Buffers.{low_word, value_place, Buffers, low_at, slot_words, suffix_at}
-use Rattle.layout.specs.RegionLaws.{owns_kept}
-use Rattle.layout.specs.ShiftLaws.{Leads, shift_leaf, shift_ready, shifted}
-use Rattle.layout.specs.SlotLaws.{put_in_written, replace_value, take_out}
+use Rattle.layout.proofs.RegionLaws.{owns_kept}
+use Rattle.layout.specs.Shifted.{Leads, shifted}
+use Rattle.layout.proofs.ShiftLaws.{shift_leaf, shift_ready}
+use Rattle.layout.proofs.SlotLaws.{put_in_written, replace_value, take_out}
 use Rattle.lists.specs.All.{All}
 use Rattle.lists.proofs.PartLaws.{get_or-part, length-part, length-put}
 use Rattle.lists.specs.Part.{part, put}

@@ -3,11 +3,11 @@
 use Rattle.std.specs.Prelude.{ℕ, suc, zero, ◌*◌, ◌<◌, List, [], ◌∷◌, ◌++◌, ◌≡◌, refl, get_or, length, set, take, drop}
 use Rattle.std.proofs.Common.{◌∙◌, ap, sym, arith, get_or-take}
 use Rattle.std.proofs.Math.Seq.{split_at}
-use Rattle.layout.specs.AroundLaws.{around_at, lays_of}
+use Rattle.layout.proofs.AroundLaws.{around_at, lays_of}
 use Rattle.layout.specs.Buffers.{Buffers}
 use Rattle.layout.specs.Lays.{LaysAt}
 use Rattle.layout.specs.LaysLaws.{each_words}
-use Rattle.layout.specs.RegionLaws.{owns_at}
+use Rattle.layout.proofs.RegionLaws.{owns_at}
 use Rattle.lists.specs.All.{All}
 use Rattle.lists.proofs.PartLaws.{put_one}
 use Rattle.lists.specs.Part.{put}

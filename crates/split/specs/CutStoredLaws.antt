@@ -7,11 +7,13 @@ use Rattle.std.proofs.Math.Seq.{split_at}
 use Rattle.directory.specs.CutLaws.{right_count, right_leaf}
 use Rattle.directory.specs.Cuts.{CanCut, CutLeaf, Cuts, right_word}
 use Rattle.directory.specs.Used.{lent, used_from, used_to, word_at}
-use Rattle.layout.specs.AroundLaws.{LaysAround, around_at, before_kept, behind_kept, lays_of, write_around}
+use Rattle.layout.specs.Around.{LaysAround}
+use Rattle.layout.proofs.AroundLaws.{around_at, before_kept, behind_kept, lays_of, write_around}
 use Rattle.layout.specs.Lays.{LaysAt, prefixes_of}
 use Rattle.layout.specs.LaysLaws.{prefixes_at}
 use Rattle.layout.specs.Presumed.{Presumed}
-use Rattle.layout.specs.RegionLaws.{Owns, owns_at, owns_free, owns_kept}
+use Rattle.layout.specs.Regions.{Owns}
+use Rattle.layout.proofs.RegionLaws.{owns_at, owns_free, owns_kept}
 use Rattle.layout.specs.declared.Header.{Header}
 use Rattle.lists.specs.All.{All}
 use Rattle.lists.proofs.PartLaws.{length-put, part-put}

@@ -10,8 +10,9 @@ use Rattle.directory.specs.Used.{lent}
 use Rattle.layout.specs.Buffers.{Buffers, low_at, low_word, suffix_at}
 use Rattle.layout.specs.Lays.{LaysAt, LaysLeaf}
 use Rattle.layout.specs.LaysLaws.{each_at, each_words}
-use Rattle.layout.specs.LaysParts.{WordInside, lays_words_inside, words_at}
-use Rattle.layout.specs.LaysWords.{region_in}
+use Rattle.layout.specs.LaysParts.{WordInside}
+use Rattle.layout.proofs.LaysParts.{lays_words_inside, words_at}
+use Rattle.layout.proofs.LaysWords.{region_in}
 use Rattle.layout.specs.Order.{leaf_words}
 use Rattle.layout.specs.declared.Header.{Header}
 use Rattle.leaf.specs.Keys.{KeyAt, UpperAt, key_at, upper_at}

@@ -3,7 +3,8 @@
 use Rattle.std.specs.Prelude.{◌+◌, ◌<◌, ◌≤◌, suc, ℕ, List, [], ◌≡◌, get_or, length}
 use Rattle.std.proofs.Common.{◌∙◌, ap, sym, arith}
 use Rattle.layout.specs.Buffers.{low_word}
-use Rattle.layout.specs.Pieces.{InList, pieces_of, word_at_slot}
+use Rattle.layout.specs.Pieces.{InList, word_at_slot}
+use Rattle.layout.proofs.Pieces.{pieces_of}
 use Rattle.layout.specs.Presumed.{Presumed}
 use Rattle.layout.specs.declared.Header.{Header}
 use Rattle.leaf.specs.declared.Leaf.{Leaf}

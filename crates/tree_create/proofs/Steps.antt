@@ -6,9 +6,10 @@ use mathlib.Core.Path.{◌∙◌, ◌≡◌, ap, refl, sym}
 use native.Mathlib.Nat.{add-zero}
 use native.Mathlib.Omega.{arith}
 use lib.ListN.{get_or, length, set}
-use Rattle.layout.specs.Examples.{Blank, blank_holds, header}
+use Rattle.layout.specs.Examples.{Blank, header}
+use Rattle.layout.proofs.Examples.{blank_holds}
 use Rattle.layout.specs.Lays.{W}
-use Rattle.layout.specs.LaysWords.{region_in}
+use Rattle.layout.proofs.LaysWords.{region_in}
 use Rattle.layout.specs.declared.Header.{Header}
 use Rattle.lists.proofs.PartLaws.{get_or-put_in, put_one, length-put}
 use Rattle.lists.specs.Part.{put}

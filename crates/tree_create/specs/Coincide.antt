@@ -2,7 +2,8 @@
 -- Assumes nothing.
 use Rattle.std.specs.Prelude.{ℕ, List, ◌≡◌, length}
 use Rattle.std.proofs.Common.{◌∙◌, sym}
-use Rattle.layout.specs.Examples.{fresh_good, header}
+use Rattle.layout.proofs.Examples.{fresh_good}
+use Rattle.layout.specs.Examples.{header}
 use Rattle.layout.specs.Lays.{W}
 use Rattle.model.specs.Rules.{fresh}
 use Rattle.layout.specs.declared.Header.{Header}

@@ -10,7 +10,7 @@ use native.Mathlib.Omega.{arith}
 use lib.ListN.{drop, drop_of_length-le, get_or, length, take}
 use lib.Seq.{drop-cons, get_or-take, length-take-le}
 use Rattle.layout.specs.Buffers.{low_at, low_word, suffix_at}
-use Rattle.layout.specs.LaysWords.{region_in}
+use Rattle.layout.proofs.LaysWords.{region_in}
 use Rattle.leaf.specs.Keys.{KeyAt, UpperAt, key_at, upper_at}
 use Rattle.leaf.specs.declared.Upper.{Upper}
 use Rattle.leaf.specs.declared.Upper.TheVariants.{At, Nothing}

@@ -7,12 +7,11 @@ use Rattle.std.proofs.Common.{sym, ◌∙◌, ap, add-zero, arith, take-append-d
 use Rattle.std.proofs.lemmas.List.{length-map}
 use Rattle.layout.specs.Buffers.{Buffers, low_at, low_word, pair_at, slot_words}
 use Rattle.layout.specs.Lays.{LaysLeaf}
-use Rattle.layout.specs.LaysParts.{WordInside, suffix-length}
-use Rattle.layout.specs.LaysWords.{region_in}
-use Rattle.lists.specs.Extents.{InOrder}
-use Rattle.layout.specs.Order.{leaf_words, word_extent}
-use Rattle.lists.proofs.ExtentLaws.{order_top}
-use Rattle.lists.specs.Extents.{end_of}
+use Rattle.layout.specs.LaysParts.{WordInside}
+use Rattle.layout.proofs.LaysParts.{suffix-length}
+use Rattle.layout.proofs.LaysWords.{region_in}
+use Rattle.layout.specs.Order.{InOrder, leaf_words, word_extent, end_of}
+use Rattle.layout.proofs.OrderLaws.{order_top}
 use Rattle.lists.specs.All.{All}
 use Rattle.lists.proofs.PartLaws.{length-part}
 use Rattle.model.specs.Charge.{weight}

@@ -7,11 +7,10 @@ use Rattle.std.proofs.Math.Option.{Option, none, some}
 use Rattle.std.proofs.Common.{ap, ◌∙◌, sym, add_assoc, length-append}
 use Rattle.std.proofs.Math.Path.{refl}
 use Rattle.layout.specs.Buffers.{pair_at, suffix_at}
-use Rattle.layout.specs.LaysParts.{WordInside, suffix-length, value_length}
-use Rattle.lists.specs.Extents.{InOrder}
-use Rattle.layout.specs.Order.{word_extent}
-use Rattle.lists.proofs.ExtentLaws.{order_top}
-use Rattle.lists.specs.Extents.{end_of}
+use Rattle.layout.specs.LaysParts.{WordInside}
+use Rattle.layout.proofs.LaysParts.{suffix-length, value_length}
+use Rattle.layout.specs.Order.{InOrder, word_extent, end_of}
+use Rattle.layout.proofs.OrderLaws.{order_top}
 use Rattle.lists.specs.All.{all_both, all_mono, All}
 use Rattle.model.specs.Charge.{weight}
 use Rattle.model.specs.Good.{Within, limits}

@@ -7,10 +7,8 @@ use Rattle.std.proofs.Common.{◌∙◌, ap, subst, sym, arith, length-append}
 use Rattle.std.proofs.Math.Path.{refl}
 use Rattle.layout.specs.Buffers.{Buffers, low_word}
 use Rattle.layout.specs.Lays.{LaysEach, prefixes_of}
-use Rattle.lists.specs.Extents.{Extent, InOrder}
-use Rattle.layout.specs.Order.{extents, leaf_words, word_extent, words_of}
-use Rattle.lists.proofs.ExtentLaws.{order_end, order_append, order_left, order_right, order_top, order_widen}
-use Rattle.lists.specs.Extents.{end_of}
+use Rattle.layout.specs.Order.{Extent, InOrder, extents, leaf_words, word_extent, words_of, end_of}
+use Rattle.layout.proofs.OrderLaws.{order_end, order_append, order_left, order_right, order_top, order_widen}
 use Rattle.lists.specs.All.{All}
 use Rattle.model.specs.Charge.{charge}
 use Rattle.model.specs.Good.{Filled, Tiled, limits}

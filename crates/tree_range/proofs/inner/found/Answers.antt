@@ -1,6 +1,6 @@
 -- `inner::found` meets its contract.
 -- Assumes nothing.
-use Rattle.layout.specs.LaysWords.{holds_long}
+use Rattle.layout.proofs.LaysWords.{holds_long}
 use Rattle.tree_range.specs.FoundLaws.{allowed, found_at, found_out, found_past, hit_end, hit_inverted, hit_start, next_in, spot_of}
 use native.Mathlib.Omega.{arith}
 use Rattle.tree_range.proofs.inner.found.Goals as goal

@@ -4,14 +4,17 @@ use Rattle.std.specs.Prelude.{◌-◌, ◌<◌, suc, ℕ, ◌+◌, ◌≤◌, �
 use Rattle.std.proofs.lemmas.List.{map-append}
 use Rattle.std.proofs.Common.{◌∙◌, ap, subst, sym, arith}
 use Rattle.std.proofs.Math.Seq.{split_at}
-use Rattle.layout.specs.AroundLaws.{low_neighbours, neighbours, LaysAround, words_before, words_behind}
+use Rattle.layout.proofs.AroundLaws.{low_neighbours, neighbours}
+use Rattle.layout.specs.Around.{LaysAround, words_before, words_behind}
 use Rattle.layout.specs.Buffers.{suffix_at, low_at, pair_at, Buffers, low_word, slot_words}
-use Rattle.layout.specs.EditLaws.{edit_leaf, pair_here, words_long}
-use Rattle.layout.specs.FrameLaws.{SameBytes, bytes_frame, moved_suffix, same_leaves, same_pairs, moved_pair, WordsIn, first_of, rewritten}
+use Rattle.layout.proofs.EditLaws.{edit_leaf, pair_here, words_long}
+use Rattle.layout.specs.Frames.{SameBytes, WordsIn, first_of, rewritten}
+use Rattle.layout.proofs.FrameLaws.{bytes_frame, moved_suffix, same_leaves, same_pairs, moved_pair}
 use Rattle.layout.specs.Order.{extents, word_extent, words_of}
-use Rattle.lists.proofs.ExtentLaws.{order_insert, order_top}
-use Rattle.layout.specs.RegionLaws.{Owns, low_words, low_written, region_ahead, region_behind}
-use Rattle.layout.specs.SlotLaws.{replace_written}
+use Rattle.layout.proofs.OrderLaws.{order_insert, order_top}
+use Rattle.layout.specs.Regions.{Owns}
+use Rattle.layout.proofs.RegionLaws.{low_words, low_written, region_ahead, region_behind}
+use Rattle.layout.proofs.SlotLaws.{replace_written}
 use Rattle.lists.specs.All.{All, all_left, all_right}
 use Rattle.lists.proofs.PartLaws.{length-part, part-put, length-put}
 use Rattle.lists.specs.Part.{part, put}

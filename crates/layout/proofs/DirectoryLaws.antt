@@ -4,14 +4,17 @@ use Rattle.std.specs.Prelude.{◌-◌, ℕ, ◌+◌, ◌≤◌, [], ◌++◌, ma
 use Rattle.std.proofs.Common.{append-nil, append_assoc, ◌∙◌, ap, sym, add-zero, arith, take-take}
 use Rattle.std.proofs.lemmas.List.{map-append}
 use Rattle.std.proofs.Math.ListN.{length-drop, length-take}
-use Rattle.layout.specs.AroundLaws.{before_kept, behind_kept, write_around, LaysAround, words_before, words_behind}
+use Rattle.layout.proofs.AroundLaws.{before_kept, behind_kept, write_around}
+use Rattle.layout.specs.Around.{LaysAround, words_before, words_behind}
 use Rattle.layout.specs.Buffers.{Buffers, low_at, low_word, pair_at, slot_words, suffix_at}
-use Rattle.layout.specs.EditLaws.{edit_all, words_long, map-drop, map-take}
-use Rattle.layout.specs.FrameLaws.{Elsewhere, rewritten, same_words, SameLeaf, SameWords, WordsIn, all_of, first_of, same_each, same_leaves}
+use Rattle.layout.proofs.EditLaws.{edit_all, words_long, map-drop, map-take}
+use Rattle.layout.specs.Frames.{Elsewhere, rewritten, SameLeaf, SameWords, WordsIn, first_of}
+use Rattle.layout.proofs.FrameLaws.{same_words, all_of, same_each, same_leaves}
 use Rattle.layout.specs.Lays.{LaysLeaf}
 use Rattle.layout.specs.Order.{leaf_words, word_extent, words_of}
-use Rattle.lists.proofs.ExtentLaws.{order_top, order_remove, order_insert}
-use Rattle.layout.specs.RegionLaws.{owns_kept, Owns, low_words, low_written, region_ahead, region_behind, region_words, words_from}
+use Rattle.layout.proofs.OrderLaws.{order_top, order_remove, order_insert}
+use Rattle.layout.proofs.RegionLaws.{owns_kept, low_words, low_written, region_ahead, region_behind, region_words, words_from}
+use Rattle.layout.specs.Regions.{Owns}
 use Rattle.lists.specs.All.{all_append, all_both, all_left, all_mono, all_right, All}
 use Rattle.lists.proofs.PartLaws.{part-put, length-part, length-put}
 use Rattle.lists.specs.Part.{part, put}

@@ -1,26 +1,24 @@
 -- The slot words of a leaf under a longer or a shorter prefix: each suffix loses its first g bytes to the prefix, or gets them back. No byte of
 -- the arena changes.
 -- Assumes nothing.
-use Rattle.std.specs.Prelude.{◌*◌, ◌<◌, ◌-◌, ◌^◌, ℕ, ◌+◌, ◌≤◌, List, [], ◌++◌, ◌∷◌, map, refl, ◌≡◌, length, drop, take}
+use Rattle.std.specs.Prelude.{◌<◌, ◌-◌, ◌^◌, ℕ, ◌+◌, ◌≤◌, List, [], ◌++◌, ◌∷◌, map, refl, ◌≡◌, length, drop, take}
 use Rattle.std.proofs.Common.{append_assoc, ◌∙◌, ap, sym, le-add_left, arith, length-take, take-append-drop, take-take, drop_at, length-take-le, take-add, drop-drop}
 use Rattle.std.proofs.lemmas.List.{length-map}
 use Rattle.std.proofs.Math.Seq.{take-append-add}
-use Rattle.layout.specs.AroundLaws.{inside_here, LaysAround}
+use Rattle.layout.proofs.AroundLaws.{inside_here}
+use Rattle.layout.specs.Around.{LaysAround}
 use Rattle.layout.specs.Buffers.{low_word, Buffers, pair_at, slot_words, suffix_at, value_at}
-use Rattle.layout.specs.EditLaws.{edit_all, words_long}
-use Rattle.layout.specs.FrameLaws.{WordsIn, first_of, rewritten}
+use Rattle.layout.proofs.EditLaws.{edit_all, words_long}
+use Rattle.layout.specs.Frames.{WordsIn, first_of, rewritten}
 use Rattle.layout.specs.Order.{words_of}
-use Rattle.layout.specs.RegionLaws.{Owns}
+use Rattle.layout.specs.Regions.{Owns}
 use Rattle.lists.specs.All.{all_mono, All}
 use Rattle.lists.proofs.PartLaws.{length-part, take-drop}
 use Rattle.lists.specs.Part.{part, put}
 use Rattle.model.specs.Leaves.{Node}
 use Rattle.order.specs.Bytes.{Bytes}
 use Rattle.words.specs.Words.{word_count, word_offset, word_suffix, word_value}
-
--- offset up by g, suffix length down by g
-abbrev pub shifted : (g w : ℕ) → ℕ
-shifted g w = w + g * (2 ^ 36 - 2 ^ 24)
+use Rattle.layout.specs.Shifted.{shifted, Leads, lowered, Preceded}
 
 module _ (g w : ℕ) (h : g ≤ word_suffix w) where
   pub offset_shifted : word_offset (shifted g w) ≡ word_offset w + g
@@ -56,10 +54,6 @@ pair_shifted arena prefix g w h =
     ∙ ap (λ (i : ℕ). drop g (part arena (word_offset w) i)) (let q : g + (word_suffix w - g) ≡ word_suffix w = omega arith in q) in
     let q : word_offset w + g + (word_suffix w - g) ≡ word_offset w + word_suffix w = omega arith in
     rw (offset_shifted g w h, suffix_shifted g w h, value_shifted g w h, q, s, append_assoc prefix (take g x) (drop g x), take-append-drop g x)
-
--- the word's suffix leads with these g bytes
-abbrev pub Leads : (arena : List ℕ) (g : ℕ) (bytes : Bytes) → ℕ → Type 0
-Leads arena g bytes w = (g ≤ word_suffix w) × (take g (suffix_at arena w) ≡ bytes)
 
 pairs_shifted : (arena prefix bytes : List ℕ) (g : ℕ) (ws : List ℕ) → All (Leads arena g bytes) ws
     → map (pair_at arena (prefix ++ bytes)) (map (shifted g) ws) ≡ map (pair_at arena prefix) ws
@@ -118,15 +112,6 @@ pub shift_ready : {b : Buffers} {fs : List ℕ} {d : ℕ} {bs qs : List ℕ} {p 
     → All (Leads b.arena g (part n.low p g)) (slot_words b d)
 shift_ready {b} {fs} {d} {bs} {qs} {p} {rs} {l} {n} {r} g h long k =
     words_ready b.arena n.low p g long (slot_words b d) (inside_here h).1 (rw h.here.pairs_are k)
-
--- the other way: offset down by g, suffix length up by g, where these bytes stand right before the part
-abbrev pub lowered : (g w : ℕ) → ℕ
-lowered g w = w - g * (2 ^ 36 - 2 ^ 24)
-
-pub record Preceded (arena : List ℕ) (g : ℕ) (bytes : Bytes) (w : ℕ) : Type 0 where
-  pub offset_high : g ≤ word_offset w
-  pub suffix_low : word_suffix w + g < 2 ^ 12
-  pub bytes_are : part arena (word_offset w - g) g ≡ bytes
 
 module _ (g w : ℕ) (h : g ≤ word_offset w) where
   pub shifted_lowered : shifted g (lowered g w) ≡ w

@@ -4,13 +4,16 @@ use Rattle.std.specs.Prelude.{◌-◌, ◌≤◌, ◌<◌, suc, ℕ, ◌+◌, Li
 use Rattle.std.proofs.Common.{append-nil, ap, ◌∙◌, sym, arith, length-append, length-drop, take-take}
 use Rattle.std.proofs.lemmas.List.{map-append}
 use Rattle.std.proofs.Math.Seq.{drop-append_seam, take-length, take-append_seam}
-use Rattle.layout.specs.AroundLaws.{within_neighbours, LaysAround, behind_cons, ordered_at, words_before, words_behind}
+use Rattle.layout.proofs.AroundLaws.{within_neighbours, behind_cons, ordered_at}
+use Rattle.layout.specs.Around.{LaysAround, words_before, words_behind}
 use Rattle.layout.specs.Buffers.{suffix_at, value_at, value_place, Buffers, pair_at, slot_words}
-use Rattle.layout.specs.EditLaws.{pair_here, edit_tail, map-drop, words_long}
-use Rattle.layout.specs.FrameLaws.{bytes_frame, same_pairs, SameBytes, WordsIn, all_of, first_of, rewritten}
+use Rattle.layout.proofs.EditLaws.{pair_here, edit_tail, map-drop, words_long}
+use Rattle.layout.proofs.FrameLaws.{bytes_frame, same_pairs, all_of}
+use Rattle.layout.specs.Frames.{SameBytes, WordsIn, first_of, rewritten}
 use Rattle.layout.specs.Order.{word_extent, words_of}
-use Rattle.lists.proofs.ExtentLaws.{order_top, order_insert, order_remove}
-use Rattle.layout.specs.RegionLaws.{Owns, region_words, words_from}
+use Rattle.layout.proofs.OrderLaws.{order_top, order_insert, order_remove}
+use Rattle.layout.specs.Regions.{Owns}
+use Rattle.layout.proofs.RegionLaws.{region_words, words_from}
 use Rattle.lists.specs.All.{all_left, all_right, All}
 use Rattle.lists.proofs.PartLaws.{part-part, part-put, part-put_before, length-part, length-put}
 use Rattle.lists.specs.Part.{part, put}

@@ -6,24 +6,17 @@ use Rattle.std.proofs.lemmas.List.{map-append}
 use Rattle.std.proofs.Common.{append-nil, append_assoc, ◌∙◌, ap, subst, sym, arith, take-append-drop, drop-cons}
 use Rattle.std.proofs.Math.Seq.{split_at}
 use Rattle.layout.specs.Buffers.{Buffers, low_word, slot_words}
-use Rattle.layout.specs.FrameLaws.{all_words, rewritten, write_gap, WordsIn}
-use Rattle.layout.specs.Lays.{LaysAt, LaysEach, LaysLeaf}
+use Rattle.layout.proofs.FrameLaws.{all_words, write_gap}
+use Rattle.layout.specs.Frames.{rewritten, WordsIn}
+use Rattle.layout.specs.Lays.{LaysAt}
 use Rattle.layout.specs.LaysLaws.{each_prefixes, each_append, each_at, each_cut, each_split, each_words}
-use Rattle.layout.specs.Order.{extents, word_extent, leaf_words, words_of}
-use Rattle.lists.specs.Extents.{Extent, InOrder}
-use Rattle.lists.proofs.ExtentLaws.{order_before, order_left, order_right, order_widen}
-use Rattle.lists.specs.Extents.{end_of}
+use Rattle.layout.specs.Order.{extents, word_extent, leaf_words, words_of, Extent, InOrder, end_of}
+use Rattle.layout.proofs.OrderLaws.{order_before, order_left, order_right, order_widen}
 use Rattle.lists.specs.All.{all_left, all_right, All}
 use Rattle.lists.specs.Part.{put}
 use Rattle.model.specs.Leaves.{Node}
 use Rattle.words.specs.Words.{word_offset, word_suffix, word_value}
-
--- the directory words fs, d and bs, at the prefix lengths qs, p and rs, lay out the leaves l, n and r
-pub record LaysAround (b : Buffers) (fs : List ℕ) (d : ℕ) (bs qs : List ℕ) (p : ℕ) (rs : List ℕ) (l : List Node) (n : Node) (r : List Node) : Type 0 where
-  pub ahead : LaysEach b qs fs l
-  pub here : LaysLeaf b p d n
-  pub behind : LaysEach b rs bs r
-  pub ordered : WordsIn 0 (words_of b fs ++ (leaf_words b d ++ words_of b bs)) (length b.arena)
+use Rattle.layout.specs.Around.{LaysAround, words_before, words_behind}
 
 words_append : (b : Buffers) (ds es : List ℕ) → words_of b (ds ++ es) ≡ words_of b ds ++ words_of b es
 words_append b [] es = refl
@@ -78,13 +71,6 @@ pub around_prev : {b : Buffers} {fs : List ℕ} {d e : ℕ} {bs qs : List ℕ} {
 around_prev {b} {fs} {d} {e} {bs} {qs} {p} {q} {rs} {l} {n} {m} {r} i j h =
     let s = each_split b qs (p ∷ []) fs (d ∷ []) l (n ∷ []) i j h.ahead in
     record { ahead = s.0; here = s.1.0; behind = (h.here, h.behind); ordered = simp (words_append b fs (d ∷ []), append-nil, append_assoc) at h.ordered }
-
--- the words before the j-th slot word of the leaf, and those from it on
-abbrev pub words_before : Buffers → (fs : List ℕ) (d j : ℕ) → List ℕ
-words_before b fs d j = words_of b fs ++ (low_word b d ∷ take j (slot_words b d))
-
-abbrev pub words_behind : Buffers → (d : ℕ) (bs : List ℕ) (j : ℕ) → List ℕ
-words_behind b d bs j = drop j (slot_words b d) ++ words_of b bs
 
 pub words_cut : (f : List ℕ) (w : ℕ) (x y r : List ℕ) → f ++ (w ∷ ((x ++ y) ++ r)) ≡ (f ++ (w ∷ x)) ++ (y ++ r)
 words_cut f w x y r = simp append_assoc

@@ -4,12 +4,15 @@
 use Rattle.std.specs.Prelude.{◌<◌, suc, zero, ℕ, ◌+◌, ◌≤◌, [], List, ◌++◌, ◌∷◌, map, refl, ◌≡◌, get_or, drop, length, take}
 use Rattle.std.proofs.Common.{append-nil, ap, sym, ◌∙◌, add-zero, arith, length-append, length-take}
 use Rattle.std.proofs.lemmas.List.{map-append, length-map}
-use Rattle.layout.specs.AroundLaws.{words_cut, words_before, LaysAround}
+use Rattle.layout.proofs.AroundLaws.{words_cut}
+use Rattle.layout.specs.Around.{words_before, LaysAround}
 use Rattle.layout.specs.Buffers.{Buffers, low_at, low_word, pair_at, slot_words, suffix_at}
-use Rattle.layout.specs.FrameLaws.{all_of, same_pairs, first_of, SameBytes, same_leaves, same_suffix, SameLeaf, WordsIn, rewritten, same_each, same_words}
+use Rattle.layout.proofs.FrameLaws.{all_of, same_pairs, same_leaves, same_suffix, same_each, same_words}
+use Rattle.layout.specs.Frames.{first_of, SameBytes, SameLeaf, WordsIn, rewritten}
 use Rattle.layout.specs.Lays.{LaysLeaf}
 use Rattle.layout.specs.Order.{words_of}
-use Rattle.layout.specs.RegionLaws.{region_ahead, region_behind, region_low, region_words, Owns}
+use Rattle.layout.proofs.RegionLaws.{region_ahead, region_behind, region_low, region_words}
+use Rattle.layout.specs.Regions.{Owns}
 use Rattle.lists.specs.All.{all_left, all_right, All}
 use Rattle.lists.specs.Map.{get_or-map_lt}
 use Rattle.lists.specs.Part.{put}

@@ -5,7 +5,7 @@ use mathlib.Core.List.{List, [], ◌++◌, ◌∷◌}
 use Rattle.std.proofs.Common.{◌∙◌, ap, sym, arith, get_or-take}
 use Rattle.layout.specs.Buffers.{Buffers, slot_words}
 use Rattle.layout.specs.Lays.{LaysEach, buffers, prefixes_of}
-use Rattle.layout.specs.LaysWords.{leaf_slots}
+use Rattle.layout.proofs.LaysWords.{leaf_slots}
 use Rattle.layout.specs.Places.{slots_of, word_of}
 use Rattle.layout.specs.Presumed.{Presumed}
 use Rattle.layout.specs.declared.Header.{Header}

@@ -3,11 +3,10 @@
 -- Assumes nothing.
 use Rattle.std.specs.Prelude.{◌+◌, ◌≤◌, ℕ, List, [], ◌++◌, ◌∷◌, ◌≡◌, length}
 use Rattle.std.proofs.Common.{arith}
-use Rattle.lists.specs.Extents.{Extent, InOrder}
+use Rattle.layout.specs.Order.{Extent, InOrder, end_of, total, Apart}
 use Rattle.lists.specs.All.{All, all_append, all_mono}
 use Rattle.lists.specs.Part.{part, put}
 use Rattle.lists.proofs.PartLaws.{part-put_after, part-put_before}
-use Rattle.lists.specs.Extents.{end_of, total, Apart}
 
 pub order_total : (a : ℕ) (es : List Extent) (top : ℕ) → InOrder a es top → a + total es ≤ top
 order_total a [] top h = omega arith

@@ -4,9 +4,11 @@ use Rattle.std.specs.Prelude.{suc, ◌*◌, ◌-◌, ◌<◌, ℕ, ◌+◌, ◌�
 use Rattle.std.proofs.Common.{subst, ◌∙◌, ap, sym, mul_comm, mul-le-mul_right, arith, drop-drop}
 use Rattle.std.proofs.Math.Nat.{add-zero}
 use Rattle.std.proofs.Math.Seq.{split_at, take-take}
-use Rattle.layout.specs.AroundLaws.{around_at, LaysAround, lays_of}
+use Rattle.layout.proofs.AroundLaws.{around_at, lays_of}
+use Rattle.layout.specs.Around.{LaysAround}
 use Rattle.layout.specs.Buffers.{Buffers, low_word, slot_words}
-use Rattle.layout.specs.FrameLaws.{Elsewhere, SameWords, first_of, region_frame, rewritten}
+use Rattle.layout.specs.Frames.{Elsewhere, SameWords, first_of, rewritten}
+use Rattle.layout.proofs.FrameLaws.{region_frame}
 use Rattle.layout.specs.Lays.{LaysAt, LaysEach}
 use Rattle.layout.specs.LaysLaws.{each_induct}
 use Rattle.lists.specs.All.{all_at, All, all_append, all_left, all_mono, all_right}
@@ -15,13 +17,7 @@ use Rattle.lists.specs.Part.{part, put}
 use Rattle.model.specs.Good.{Distinct}
 use Rattle.model.specs.Leaves.{Node}
 use Rattle.words.specs.Words.{first_slot, low_key_slot, word_count, word_leaf}
-
--- the leaf's region is inside the slot buffer, and no other leaf's words are in it
-pub record Owns (b : Buffers) (fs : List ℕ) (d : ℕ) (bs : List ℕ) : Type 0 where
-  pub inside : first_of b d + b.fanout ≤ length b.slots
-  pub count_fits : word_count d < b.fanout
-  pub others_ahead : All (Elsewhere b.fanout (word_leaf d)) fs
-  pub others_behind : All (Elsewhere b.fanout (word_leaf d)) bs
+use Rattle.layout.specs.Regions.{Owns}
 
 region_inside : (fanout pool leaf slots : ℕ) → slots ≡ fanout * pool → leaf < pool → first_slot fanout leaf + fanout ≤ slots
 region_inside fanout pool leaf slots s i = omega (arith, mul-le-mul_right fanout i, mul_comm fanout pool)

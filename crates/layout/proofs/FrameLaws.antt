@@ -1,7 +1,7 @@
 -- What a write leaves as it was: a write into the slot words of one leaf keeps the words of every other leaf, and a write of bytes into a gap
 -- keeps every leaf.
 -- Assumes nothing.
-use Rattle.std.specs.Prelude.{◌-◌, ◌<◌, suc, ℕ, ◌+◌, ◌≤◌, ◌⊎◌, ◌≡◌, refl, ltb, drop, length}
+use Rattle.std.specs.Prelude.{◌-◌, suc, ℕ, ◌+◌, ◌≤◌, ◌⊎◌, ◌≡◌, refl, ltb, drop, length}
 use mathlib.Core.List.{map-append, List, [], ◌++◌, ◌∷◌, map}
 use Rattle.std.proofs.Math.Logic.{inl, inr}
 use Rattle.std.proofs.Common.{◌∙◌, sym, eq-or-lt_of_le, mul-le-mul_right, arith, ltb-false, ltb-true}
@@ -11,9 +11,8 @@ use Rattle.std.proofs.Math.Seq.{take-take}
 use Rattle.layout.specs.Buffers.{Buffers, low_at, low_word, pair_at, slot_words, suffix_at, value_at}
 use Rattle.layout.specs.Lays.{LaysAt, LaysEach, LaysLeaf}
 use Rattle.layout.specs.LaysLaws.{each_induct}
-use Rattle.lists.specs.Extents.{Extent, InOrder}
-use Rattle.layout.specs.Order.{leaf_words, word_extent, words_of}
-use Rattle.lists.proofs.ExtentLaws.{order_top, gap_frame}
+use Rattle.layout.specs.Order.{Extent, word_extent, words_of}
+use Rattle.layout.proofs.OrderLaws.{order_top, gap_frame}
 use Rattle.lists.specs.All.{All, all_left, all_right}
 use Rattle.lists.proofs.PartLaws.{get_or-put_after, get_or-put_before, part-part, part-put_after, part-put_before, length-put}
 use Rattle.lists.specs.Part.{part, put}
@@ -21,18 +20,7 @@ use Rattle.model.specs.LeafViews.{fails, holds, truth}
 use Rattle.model.specs.Leaves.{Node}
 use Rattle.order.specs.Bytes.{Bytes}
 use Rattle.words.specs.Words.{first_slot, word_count, word_leaf, word_offset, word_suffix, word_value}
-
--- the buffers with other slots and another arena
-abbrev pub rewritten : Buffers → (slots arena : List ℕ) → Buffers
-rewritten b slots arena = record { fanout = b.fanout; slots = slots; arena = arena }
-
--- where the words of a directory word's leaf begin
-abbrev pub first_of : Buffers → ℕ → ℕ
-first_of b d = first_slot b.fanout (word_leaf d)
-
--- the parts of these words lie in order
-abbrev pub WordsIn : ℕ → List ℕ → ℕ → Type 0
-WordsIn a ws top = InOrder a (map word_extent ws) top
+use Rattle.layout.specs.Frames.{rewritten, first_of, WordsIn, SameBytes, SameWords, SameLeaf, Elsewhere}
 
 -- the bytes of the word w's part, now at the word v's place: v's suffix and value are w's
 
@@ -56,10 +44,6 @@ module _ (arena now : List ℕ) (w v : ℕ) (suffix : word_suffix v ≡ word_suf
   unfolding pair_at
   moved_pair prefix = rw (moved_suffix, moved_value)
 
--- the bytes of a word's part are as they were
-abbrev pub SameBytes : (arena now : List ℕ) → ℕ → Type 0
-SameBytes arena now w = part now (word_offset w) (word_suffix w + word_value w) ≡ part arena (word_offset w) (word_suffix w + word_value w)
-
 module _ (arena now : List ℕ) where
   pub same_suffix : (w : ℕ) → SameBytes arena now w → suffix_at now w ≡ suffix_at arena w
   same_suffix w h = moved_suffix arena now w w refl refl h
@@ -71,15 +55,6 @@ module _ (arena now : List ℕ) where
 pub all_of : {A : Type 0} {P : A → Type 0} → ((x : A) → P x) → (l : List A) → All P l
 all_of f [] = tt
 all_of f (x ∷ l) = (f x, all_of f l)
-
--- the words of a directory word are as they were
-pub record SameWords (b c : Buffers) (d : ℕ) : Type 0 where
-  pub low_word_eq : low_word c d ≡ low_word b d
-  pub words : slot_words c d ≡ slot_words b d
-
-pub record SameLeaf (b c : Buffers) (d : ℕ) : Type 0 where
-  pub same : SameWords b c d
-  pub bytes : All (SameBytes b.arena c.arena) (leaf_words b d)
 
 pub same_leaf : {b c : Buffers} {p d : ℕ} {n : Node} → SameLeaf b c d → LaysLeaf b p d n → LaysLeaf c p d n
 unfolding low_at
@@ -109,11 +84,6 @@ module _ (b c : Buffers) where
   )
 
 -- a write into the slot words of one leaf: the words of every other leaf stay
-
--- a directory word of another leaf, with fewer words than the fanout
-pub record Elsewhere (fanout leaf d : ℕ) : Type 0 where
-  pub other : word_leaf d ≡ leaf → ⊥
-  pub fits : word_count d < fanout
 
 -- its words lie before the region of that leaf, or behind it
 apart : (fanout leaf i : ℕ) → (i ≡ leaf → ⊥) → (first_slot fanout i + fanout ≤ first_slot fanout leaf) ⊎ (first_slot fanout leaf + fanout ≤ first_slot fanout i)
