@@ -146,6 +146,13 @@ module _ {s : State} (h : History s) where
       few_now : length (put k v (pairs_of ns)) ≤ P
       few_now = rw (stands h).pairs_are few
 
+      sized_by : (b : Answer model.Changed) → insert_answer F (length s.dir) (length s.arena) k v (length out) ns ≡ b → ChangedBy b s.header (lending s out) r after
+          → (r.old ≡ Refused NoLeaf → ⊥) × (r.old ≡ Refused NoRoom → ⊥)
+      sized_by (refused x) e c =
+          let q = sizing_answer F kmost vmost P (length s.dir) (length s.arena) three pool arena ns ((stands h).reached kmost vmost a) k v hk hv few_now (length out) x e in
+          ((λ f. q.0 (refused_is (sym c.answer.answer_is ∙ f))), λ f. q.1 (refused_is (sym c.answer.answer_is ∙ f)))
+      sized_by (accepted c) e b = (told_not_refused c.old b.answer.answer_is, told_not_refused c.old b.answer.answer_is)
+
       -- a refusal that the answer is not, the call does not give
       not_given : {x : Refusal} (b : Answer model.Changed) → ((y : Refusal) → b ≡ refused y → y ≡ x → ⊥) → ChangedBy b s.header (lending s out) r after → r.old ≡ Refused x → ⊥
       not_given (refused y) n c f = n y refl (refused_is (sym c.answer.answer_is ∙ f))

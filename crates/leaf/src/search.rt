@@ -23,6 +23,7 @@ fn compare_suffix(slots: &[u64], arena: &[u8], i: SlotNo, suffix: &[u8]) -> Orde
 }
 
 // The key's part from the prefix length on, sought among the leaf's suffixes by a walk from the front.
+#[tactic(auto, using(crate::proofs::Steps::found_at, crate::proofs::Steps::found_end, crate::proofs::Steps::found_gap, crate::proofs::Steps::passed_next, crate::proofs::Steps::passed_none, crate::proofs::Steps::slot_inside))]
 pub fn find(slots: &[u64], arena: &[u8], leaf: Leaf, suffix: &[u8]) -> Find
     requires { Suffixes slots.now arena.now leaf }
     ensures { result ≡ find_told (place suffix.now (suffixes_of arena.now (leaf_slots slots.now leaf))) }
