@@ -1,6 +1,6 @@
 -- A pair of an index in the arena: its key in two pieces, the leaf's prefix in the low key and its own suffix, and its value behind the suffix.
 -- Assumes nothing.
-use Rattle.std.specs.Prelude.{◌+◌, ◌<◌, ◌≤◌, suc, ℕ, ◌≡◌, drop, take}
+use Rattle.std.specs.Prelude.{◌<◌, ◌≤◌, suc, ℕ, ◌≡◌, drop, take}
 use mathlib.Core.List.{List, [], ◌++◌}
 use Rattle.std.proofs.Common.{◌∙◌, arith, length-append}
 use Rattle.std.proofs.Math.Path.{ap, sym}

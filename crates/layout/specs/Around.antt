@@ -1,5 +1,5 @@
 -- A leaf list laid out around one leaf: the leaves and words before it, and behind it.
-use Rattle.std.specs.Prelude.{ℕ, ◌+◌, List, [], ◌++◌, ◌∷◌, drop, length, take}
+use Rattle.std.specs.Prelude.{ℕ, List, ◌++◌, ◌∷◌, drop, length, take}
 use Rattle.layout.specs.Buffers.{Buffers, low_word, slot_words}
 use Rattle.layout.specs.Frames.{WordsIn}
 use Rattle.layout.specs.Lays.{LaysEach, LaysLeaf}

@@ -1,5 +1,5 @@
 -- Bytes, and a leaf of bytes.
-use Rattle.std.specs.Prelude.{◌-◌, ◌<◌, ℕ, List, []}
+use Rattle.std.specs.Prelude.{◌<◌, ℕ, List}
 use Rattle.lists.specs.All.{All}
 use Rattle.model.specs.Leaves.{Node}
 

@@ -1,5 +1,5 @@
 -- A header by its numbers, and blank buffers.
-use Rattle.std.specs.Prelude.{ℕ, List, [], ◌≡◌, get_or, length}
+use Rattle.std.specs.Prelude.{ℕ, List, ◌≡◌, get_or, length}
 use Rattle.layout.specs.declared.Header.{Header}
 use Rattle.model.specs.Charge.{charge}
 use Rattle.model.specs.Limits.{Sizes}

@@ -1,7 +1,5 @@
 -- Buffers that hold a given leaf list.
-use Rattle.std.specs.Prelude.{◌*◌, ◌-◌, ◌<◌, ◌^◌, ℕ, [], List, ◌++◌, map, ◌≡◌, length, replicate}
-use Rattle.layout.specs.Encode.{directory_of}
-use Rattle.layout.specs.Encoded.{bytes_of, slots_of}
+use Rattle.std.specs.Prelude.{◌*◌, ◌<◌, ◌^◌, ℕ, List, ◌≡◌, length}
 use Rattle.layout.specs.EncodedFits.{Octets}
 use Rattle.layout.specs.Lays.{Holds}
 use Rattle.layout.specs.declared.Header.{Header}

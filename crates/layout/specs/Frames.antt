@@ -1,6 +1,6 @@
 -- What a write leaves as it was: words in order, and the words and bytes of a leaf.
-use Rattle.std.specs.Prelude.{◌-◌, ◌<◌, ℕ, ◌+◌, ◌≡◌}
-use mathlib.Core.List.{List, [], map}
+use Rattle.std.specs.Prelude.{◌<◌, ℕ, ◌+◌, ◌≡◌}
+use mathlib.Core.List.{List, map}
 use Rattle.layout.specs.Buffers.{Buffers, low_word, slot_words}
 use Rattle.layout.specs.Order.{InOrder, leaf_words, word_extent}
 use Rattle.lists.specs.All.{All}

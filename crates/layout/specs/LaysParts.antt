@@ -1,5 +1,5 @@
 -- The parts of a leaf list that is laid out: a slot word's part inside the arena, and what they cover.
-use Rattle.std.specs.Prelude.{◌+◌, ◌-◌, ◌≤◌, ℕ, List, [], ◌∷◌, length}
+use Rattle.std.specs.Prelude.{◌+◌, ◌≤◌, ℕ, List, [], ◌∷◌, length}
 use Rattle.model.specs.Charge.{stored_pairs}
 use Rattle.model.specs.Leaves.{Node}
 use Rattle.words.specs.Words.{word_offset, word_suffix, word_value}

@@ -1,5 +1,5 @@
 -- What a leaf owns of directory and slots.
-use Rattle.std.specs.Prelude.{◌-◌, ◌<◌, ℕ, ◌+◌, ◌≤◌, List, [], length}
+use Rattle.std.specs.Prelude.{◌<◌, ℕ, ◌+◌, ◌≤◌, List, length}
 use Rattle.layout.specs.Buffers.{Buffers}
 use Rattle.layout.specs.Frames.{Elsewhere, first_of}
 use Rattle.lists.specs.All.{All}

@@ -1,5 +1,5 @@
 -- L6: words whose suffixes lose g bytes at the front.
-use Rattle.std.specs.Prelude.{◌*◌, ◌<◌, ◌-◌, ◌^◌, ℕ, ◌+◌, ◌≤◌, List, [], ◌≡◌, take}
+use Rattle.std.specs.Prelude.{◌*◌, ◌<◌, ◌-◌, ◌^◌, ℕ, ◌+◌, ◌≤◌, List, ◌≡◌, take}
 use Rattle.layout.specs.Buffers.{suffix_at}
 use Rattle.lists.specs.Part.{part}
 use Rattle.order.specs.Bytes.{Bytes}
