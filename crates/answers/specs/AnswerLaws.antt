@@ -1,10 +1,13 @@
 -- Texts written one behind the other, and the texts of the answers put together from their words.
 -- Assumes nothing.
-use Rattle.std.specs.Prelude.{ℕ, ◌+◌, ◌*◌, ◌/◌, ◌%◌, ◌≤◌, ◌<◌, [], ◌++◌, ◌∷◌, ◌≡◌, refl, get_or, length, set}
+use Rattle.std.specs.Prelude.{ℕ, ◌+◌, ◌*◌, ◌/◌, ◌%◌, ◌≤◌, ◌<◌, [], ◌++◌, ◌∷◌, ◌≡◌, refl, drop, get_or, length, set, take}
 use Rattle.std.proofs.Common.{append_assoc, sym, ap, subst, ◌∙◌, arith, length-append, length-set}
 use Rattle.lists.specs.Fill.{Filling}
 use Rattle.lists.proofs.FillLaws.{fill_done, fill_step}
-use Rattle.lists.proofs.PartLaws.{put-append, put_one}
+use Rattle.lists.proofs.PartLaws.{length-put, put-append, put_one}
+use Rattle.lists.specs.Part.{put}
+use Rattle.std.proofs.lemmas.List.{drop-drop}
+use borrow.Rule.Slice.PartMut.{put_mid}
 use Rattle.order.specs.Bytes.{Bytes}
 use Rattle.lines.specs.Grammar.{Number, ◌␣◌, bytes_text, digit_of, hex_of, number_text}
 use Rattle.lines.specs.HexLaws.{hex_first, hex_length, hex_second, hexed}
@@ -13,6 +16,15 @@ use Rattle.answers.specs.Answers.{Room, Wrote, bad_word, counts_text, line_word,
 
 pub wrote_byte : (out : Bytes) (at b : ℕ) → at + 1 ≤ length out → Wrote out (set out at b) at (b ∷ []) (at + 1)
 wrote_byte out at b h = record { is = put_one out at b (omega arith); behind = refl; long = length-set out at b }
+
+pub wrote_word : (out word copied : Bytes) (at k : ℕ) → at + length word ≤ length out → copied ≡ word → k ≡ length word → Wrote out (put_mid at k out copied) at word (at + length word)
+unfolding put
+wrote_word out word copied at k h e n =
+    let is : put_mid at k out copied ≡ put out at word =
+    ap (λ (z : Bytes). put_mid at k out z) e
+    ∙ ap (λ (z : Bytes). take at out ++ (word ++ z)) (drop-drop k at out ∙ ap (λ (i : ℕ). drop (at + i) out) n)
+    ∙ sym (append_assoc (take at out) word (drop (at + length word) out)) in
+    record { is = is; behind = refl; long = ap length is ∙ length-put out at word h }
 
 pub wrote_is : {out out' : Bytes} {at r : ℕ} {t u : Bytes} → Wrote out out' at t r → t ≡ u → Wrote out out' at u r
 wrote_is {out} {out'} {at} {r} w e = subst (λ (s : Bytes). Wrote out out' at s r) e w

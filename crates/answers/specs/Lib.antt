@@ -1,2 +1,4 @@
 pub mod Answers
 pub mod AnswerLaws
+pub mod Said
+pub mod SaidLaws

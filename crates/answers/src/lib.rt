@@ -4,9 +4,36 @@
 ghost use Rattle.std.specs.Prelude.{[], ◌∷◌, ◌/◌, ◌%◌, ◌<◌, ◌≡◌};
 ghost use Rattle.lines.specs.Grammar.{Number, ◌␣◌, bytes_text, digit_of, hex_of, number_text};
 ghost use Rattle.answers.specs.Answers.{Room, Wrote, answered, counts_text, lined};
-ghost use Rattle.answers.specs.Answers.Answer.{bad, end, last, leaf, made, none, old, pair, refused, value};
+ghost use Rattle.answers.specs.Answers.Answer.{pair, refused};
+ghost use Rattle.answers.specs.Said.{Countable, leaf_said, said, upper_text};
 
-use moves::copy_bytes;
+/// An answer of the script program.
+#[derive(Clone, Copy, Debug, PartialEq, Eq)]
+pub enum Answer<'a> {
+    /// There is no value.
+    Nothing,
+    /// The value that stood at a key that was put or deleted.
+    Old(&'a [u8]),
+    Value(&'a [u8]),
+    Pair(&'a [u8], &'a [u8]),
+    /// No key follows.
+    End,
+    Leaf(Leaf<'a>),
+    /// An index was made.
+    Made,
+    /// By the refusal's number.
+    Refused(usize),
+    Bad,
+}
+
+/// A leaf's line: its low key, its upper key, its keys' common prefix length and its number of pairs.
+#[derive(Clone, Copy, Debug, PartialEq, Eq)]
+pub struct Leaf<'a> {
+    pub low: &'a [u8],
+    pub upper: Option<&'a [u8]>,
+    pub prefix: usize,
+    pub pairs: usize,
+}
 
 fn write_byte(out: &mut [u8], at: usize, b: u8) -> usize
     requires { Room out.old at (b ∷ []) }
@@ -20,8 +47,9 @@ fn write_word(out: &mut [u8], at: usize, word: &[u8]) -> usize
     requires { Room out.old at word.now }
     ensures { Wrote out.old out.new at word.now result }
 {
-    copy_bytes(out, at, word);
-    at + word.len()
+    let end = at + word.len();
+    out[at..end].copy_from_slice(word);
+    end
 }
 
 // A hexadecimal digit in lower case.
@@ -29,26 +57,19 @@ fn hex_digit(d: u8) -> u8
     requires { d < 16 }
     ensures { result ≡ digit_of d }
 {
-    if d < 10 {
-        return 48 + d;
-    }
-    87 + d
+    if d < 10 { b'0' + d } else { b'a' + (d - 10) }
 }
 
 fn write_hex(out: &mut [u8], at: usize, s: &[u8]) -> usize
     requires { Room out.old at (hex_of s.now) }
     ensures { Wrote out.old out.new at (hex_of s.now) result }
 {
-    let mut i = 0;
-    while i < s.len() {
-        let high = hex_digit(s[i] / 16);
-        let low = hex_digit(s[i] % 16);
+    for (i, byte) in s.iter().enumerate() {
         let j = at + 2 * i;
-        out[j] = high;
-        out[j + 1] = low;
-        i += 1;
+        out[j] = hex_digit(byte / 16);
+        out[j + 1] = hex_digit(byte % 16);
     }
-    at + 2 * i
+    at + 2 * s.len()
 }
 
 // The empty string is `-`.
@@ -56,10 +77,10 @@ fn write_bytes(out: &mut [u8], at: usize, s: &[u8]) -> usize
     requires { Room out.old at (bytes_text s.now) }
     ensures { Wrote out.old out.new at (bytes_text s.now) result }
 {
-    if s.len() == 0 {
-        return write_byte(out, at, b'-');
+    match s {
+        [] => write_byte(out, at, b'-'),
+        _ => write_hex(out, at, s),
     }
-    write_hex(out, at, s)
 }
 
 fn write_number(out: &mut [u8], at: usize, n: usize) -> usize
@@ -67,10 +88,10 @@ fn write_number(out: &mut [u8], at: usize, n: usize) -> usize
     ensures { Wrote out.old out.new at (number_text n) result }
 {
     if n < 10 {
-        return write_byte(out, at, (48 + n) as u8);
+        return write_byte(out, at, b'0' + n as u8);
     }
     let e = write_number(out, at, n / 10);
-    write_byte(out, e, (48 + n % 10) as u8)
+    write_byte(out, e, b'0' + (n % 10) as u8)
 }
 
 fn spaced_bytes(out: &mut [u8], at: usize, s: &[u8]) -> usize
@@ -118,49 +139,7 @@ fn write_counts(out: &mut [u8], at: usize, prefix: usize, pairs: usize) -> usize
     write_byte(out, n, b'\n')
 }
 
-pub fn write_none(out: &mut [u8], at: usize) -> usize
-    requires { Room out.old at (answered none) }
-    ensures { Wrote out.old out.new at (answered none) result }
-{
-    write_line(out, at, b"none")
-}
-
-pub fn write_end(out: &mut [u8], at: usize) -> usize
-    requires { Room out.old at (answered end) }
-    ensures { Wrote out.old out.new at (answered end) result }
-{
-    write_line(out, at, b"end")
-}
-
-pub fn write_new(out: &mut [u8], at: usize) -> usize
-    requires { Room out.old at (answered made) }
-    ensures { Wrote out.old out.new at (answered made) result }
-{
-    write_line(out, at, b"new")
-}
-
-pub fn write_bad(out: &mut [u8], at: usize) -> usize
-    requires { Room out.old at (answered bad) }
-    ensures { Wrote out.old out.new at (answered bad) result }
-{
-    write_line(out, at, b"bad line")
-}
-
-pub fn write_old(out: &mut [u8], at: usize, s: &[u8]) -> usize
-    requires { Room out.old at (answered (old s.now)) }
-    ensures { Wrote out.old out.new at (answered (old s.now)) result }
-{
-    write_tagged(out, at, b"old", s)
-}
-
-pub fn write_value(out: &mut [u8], at: usize, s: &[u8]) -> usize
-    requires { Room out.old at (answered (value s.now)) }
-    ensures { Wrote out.old out.new at (answered (value s.now)) result }
-{
-    write_tagged(out, at, b"value", s)
-}
-
-pub fn write_pair(out: &mut [u8], at: usize, key: &[u8], s: &[u8]) -> usize
+fn write_pair(out: &mut [u8], at: usize, key: &[u8], s: &[u8]) -> usize
     requires { Room out.old at (answered (pair key.now s.now)) }
     ensures { Wrote out.old out.new at (answered (pair key.now s.now)) result }
 {
@@ -170,7 +149,7 @@ pub fn write_pair(out: &mut [u8], at: usize, key: &[u8], s: &[u8]) -> usize
     write_byte(out, e, b'\n')
 }
 
-pub fn write_refused(out: &mut [u8], at: usize, n: usize) -> usize
+fn write_refused(out: &mut [u8], at: usize, n: usize) -> usize
     requires { Number n × Room out.old at (answered (refused n)) }
     ensures { Wrote out.old out.new at (answered (refused n)) result }
 {
@@ -179,30 +158,41 @@ pub fn write_refused(out: &mut [u8], at: usize, n: usize) -> usize
     write_byte(out, e, b'\n')
 }
 
-pub fn write_leaf(
-    out: &mut [u8],
-    at: usize,
-    low: &[u8],
-    upper: &[u8],
-    prefix: usize,
-    pairs: usize,
-) -> usize
-    requires { Number prefix × Number pairs × Room out.old at (answered (leaf low.now upper.now prefix pairs)) }
-    ensures { Wrote out.old out.new at (answered (leaf low.now upper.now prefix pairs)) result }
+// A leaf without an upper key has a star in its place.
+fn write_upper(out: &mut [u8], at: usize, upper: Option<&[u8]>) -> usize
+    requires { Room out.old at (32 ∷ upper_text upper) }
+    ensures { Wrote out.old out.new at (32 ∷ upper_text upper.entry) result }
 {
-    let w = write_word(out, at, b"leaf");
-    let l = spaced_bytes(out, w, low);
-    let u = spaced_bytes(out, l, upper);
-    write_counts(out, u, prefix, pairs)
+    match upper {
+        Some(key) => spaced_bytes(out, at, key),
+        None => write_word(out, at, b" *"),
+    }
 }
 
-// A leaf without an upper key.
-pub fn write_last_leaf(out: &mut [u8], at: usize, low: &[u8], prefix: usize, pairs: usize) -> usize
-    requires { Number prefix × Number pairs × Room out.old at (answered (last low.now prefix pairs)) }
-    ensures { Wrote out.old out.new at (answered (last low.now prefix pairs)) result }
+fn write_leaf(out: &mut [u8], at: usize, leaf: Leaf<'_>) -> usize
+    requires { Number leaf.prefix × Number leaf.pairs × Room out.old at (answered (leaf_said leaf)) }
+    ensures { Wrote out.old out.new at (answered (leaf_said leaf.entry)) result }
 {
     let w = write_word(out, at, b"leaf");
-    let l = spaced_bytes(out, w, low);
-    let u = write_word(out, l, b" *");
-    write_counts(out, u, prefix, pairs)
+    let l = spaced_bytes(out, w, leaf.low);
+    let u = write_upper(out, l, leaf.upper);
+    write_counts(out, u, leaf.prefix, leaf.pairs)
+}
+
+/// The answer's line, with its newline.
+pub fn write(out: &mut [u8], at: usize, answer: Answer<'_>) -> usize
+    requires { Countable answer × Room out.old at (answered (said answer)) }
+    ensures { Wrote out.old out.new at (answered (said answer.entry)) result }
+{
+    match answer {
+        Answer::Nothing => write_line(out, at, b"none"),
+        Answer::Old(s) => write_tagged(out, at, b"old", s),
+        Answer::Value(s) => write_tagged(out, at, b"value", s),
+        Answer::Pair(key, s) => write_pair(out, at, key, s),
+        Answer::End => write_line(out, at, b"end"),
+        Answer::Leaf(leaf) => write_leaf(out, at, leaf),
+        Answer::Made => write_line(out, at, b"new"),
+        Answer::Refused(n) => write_refused(out, at, n),
+        Answer::Bad => write_line(out, at, b"bad line"),
+    }
 }

@@ -1,17 +1,19 @@
 -- What a call leaves, and what a row of calls leaves, call by call.
-use Rattle.std.specs.Prelude.{ℕ, suc, ◌+◌, ◌/◌, ◌%◌, List, [], ◌∷◌, ◌≡◌, replicate}
+use Rattle.std.specs.Prelude.{ℕ, suc, ◌+◌, ◌/◌, ◌%◌, List, [], ◌∷◌, ◌≡◌, None, Some, Ok, Err, replicate}
+use Rattle.std.proofs.Common.{Option, Result}
 use Rattle.changes.specs.Outcomes.{Lent, lent}
 use Rattle.changes.specs.declared.Changed.{Changed}
-use Rattle.changes.specs.declared.Old.{Old}
-use Rattle.changes.specs.declared.Old.TheVariants.{Nothing, Refused, Value}
 use Rattle.layout.specs.Entry.{Entry}
 use Rattle.layout.specs.declared.Header.{Header}
+use Rattle.model.specs.declared.Refusal.{Refusal}
 use Rattle.order.specs.Bytes.{Bytes}
 use Rattle.tree_create.specs.Outcomes.{CreateOutcome}
 use Rattle.tree_create.specs.declared.Answered.{Answered}
 use Rattle.tree_insert.specs.Outcomes.{InsertInner}
 use Rattle.tree_remove.specs.Outcomes.{RemoveInner}
 use Rattle.bulk.specs.Job.{call_count, key_at}
+use Rattle.bulk.specs.declared.Kind.{Kind}
+use Rattle.bulk.specs.declared.Kind.TheVariants.{Insert, Remove}
 use Rattle.bulk.specs.declared.Tally.{Tally}
 use Rattle.bulk.specs.declared.job.Job.{Job}
 use Rattle.bulk.specs.declared.job.Order.{Order}
@@ -41,16 +43,20 @@ pub record RemoveOne (key : ℕ) (h : Header) (before : Store) (r : Changed) (af
   pub out : Bytes
   pub made : RemoveInner h (four_bytes key) (lends before (replicate 4 0)) r (lends after out)
 
--- a call counted: its header is the one to go on with
-abbrev pub refusals : Old → ℕ
-refusals (Value n) = 0
-refusals Nothing = 0
-refusals (Refused x) = 1
+abbrev pub CallOne : Kind → (key value : ℕ) → Header → Store → Changed → Store → Type 0
+CallOne Insert key value = InsertOne key value
+CallOne Remove key value = RemoveOne key
 
-abbrev pub finds : Old → ℕ
-finds (Value n) = 1
-finds Nothing = 0
-finds (Refused x) = 0
+-- a call counted: its header is the one to go on with
+abbrev pub refusals : Result (Option ℕ) Refusal → ℕ
+refusals (Ok (Some n)) = 0
+refusals (Ok None) = 0
+refusals (Err x) = 1
+
+abbrev pub finds : Result (Option ℕ) Refusal → ℕ
+finds (Ok (Some n)) = 1
+finds (Ok None) = 0
+finds (Err x) = 0
 
 pub record Counted (t : Tally) (c : Changed) (r : Tally) : Type 0 where
   pub header_is : r.header ≡ c.header
@@ -74,6 +80,10 @@ Inserts o n h before r after = Calls (λ i. InsertOne (key_at o i n) i) (begun h
 
 abbrev pub Removes : Order → ℕ → Header → Store → Tally → Store → Type 0
 Removes o n h before r after = Calls (λ i. RemoveOne (key_at o i n)) (begun h) before n r after
+
+-- of either kind: `CallAll Insert` is `Inserts`, and `CallAll Remove` is `Removes`
+abbrev pub CallAll : Kind → Order → ℕ → Header → Store → Tally → Store → Type 0
+CallAll kind o n h before r after = Calls (λ i. CallOne kind (key_at o i n) i) (begun h) before n r after
 
 -- both rows, on an index that stands
 pub record Rows (j : Job) (h : Header) (before after : Store) : Type 0 where

@@ -1,11 +1,10 @@
 -- Calls counted, the row that a loop makes, and both rows.
 -- Assumes nothing.
-use Rattle.std.specs.Prelude.{ℕ, suc, ◌+◌, ◌≤◌, ◌<◌, ◌≡◌, refl, length, replicate}
-use Rattle.std.proofs.Common.{◌∙◌, subst, arith}
+use Rattle.std.specs.Prelude.{ℕ, suc, ◌+◌, ◌≤◌, ◌<◌, ◌≡◌, refl, None, Some, Ok, Err, length, replicate}
+use Rattle.std.proofs.Common.{Option, Result, ◌∙◌, subst, arith}
 use Rattle.changes.specs.declared.Changed.{Changed}
-use Rattle.changes.specs.declared.Old.{Old}
-use Rattle.changes.specs.declared.Old.TheVariants.{Nothing, Refused, Value}
 use Rattle.layout.specs.declared.Header.{Header}
+use Rattle.model.specs.declared.Refusal.{Refusal}
 use Rattle.order.specs.Bytes.{Bytes}
 use Rattle.bulk.specs.Bulk.{Call, Calls, Counted, InsertOne, Inserts, RemoveOne, Removes, Rows, Store, begun, finds, four_bytes, lends, refusals}
 use Rattle.bulk.specs.Bulk.Calls.{more, start}
@@ -15,17 +14,17 @@ use Rattle.bulk.specs.declared.job.Job.{Job}
 use Rattle.tree_insert.specs.Outcomes.{InsertInner}
 use Rattle.tree_remove.specs.Outcomes.{RemoveInner}
 
-refusals_most : (o : Old) → refusals o ≤ 1
-refusals_most (Value n) = omega arith
-refusals_most Nothing = omega arith
-refusals_most (Refused x) = omega arith
+refusals_most : (o : Result (Option ℕ) Refusal) → refusals o ≤ 1
+refusals_most (Ok (Some n)) = omega arith
+refusals_most (Ok None) = omega arith
+refusals_most (Err x) = omega arith
 
-finds_most : (o : Old) → finds o ≤ 1
-finds_most (Value n) = omega arith
-finds_most Nothing = omega arith
-finds_most (Refused x) = omega arith
+finds_most : (o : Result (Option ℕ) Refusal) → finds o ≤ 1
+finds_most (Ok (Some n)) = omega arith
+finds_most (Ok None) = omega arith
+finds_most (Err x) = omega arith
 
-pub counted : {t r : Tally} {c : Changed} {o : Old} → c.old ≡ o → r.header ≡ c.header → r.refused ≡ t.refused + refusals o → r.found ≡ t.found + finds o → Counted t c r
+pub counted : {t r : Tally} {c : Changed} {o : Result (Option ℕ) Refusal} → c.old ≡ o → r.header ≡ c.header → r.refused ≡ t.refused + refusals o → r.found ≡ t.found + finds o → Counted t c r
 counted e h r f = record { header_is = h; refused_is = rw e r; found_is = rw e f }
 
 -- one call

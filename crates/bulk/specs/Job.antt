@@ -1,14 +1,9 @@
 -- The line that asks for a job, such as `r s 20000`, and the keys that its calls name.
-use Rattle.std.specs.Prelude.{ℕ, ◌+◌, ◌-◌, ◌*◌, ◌%◌, ◌≤◌, ◌<◌, cond, [], ◌∷◌, ◌≡◌, eqb, get_or, length, take}
+use Rattle.std.specs.Prelude.{ℕ, ◌+◌, ◌-◌, ◌*◌, ◌%◌, ◌≤◌, ◌<◌, cond, None, Some, [], ◌∷◌, ◌≡◌, eqb, get_or, length, take}
+use Rattle.std.proofs.Common.{Option}
 use Rattle.lists.specs.All.{All}
 use Rattle.order.specs.Bytes.{Bytes}
-use Rattle.bulk.specs.declared.job.Decimal.{Decimal}
-use Rattle.bulk.specs.declared.job.Decimal.TheVariants.{Not, Of}
 use Rattle.bulk.specs.declared.job.Job.{Job}
-use Rattle.bulk.specs.declared.job.Letter.{Letter}
-use Rattle.bulk.specs.declared.job.Letter.TheVariants.{Is, Other}
-use Rattle.bulk.specs.declared.job.Line.{Line}
-use Rattle.bulk.specs.declared.job.Line.TheVariants.{Asked, Malformed}
 use Rattle.bulk.specs.declared.job.Order.{Order}
 use Rattle.bulk.specs.declared.job.Order.TheVariants.{Falling, Nothing, Rising, Shuffled}
 
@@ -35,9 +30,9 @@ letter_of Falling = 102
 letter_of Shuffled = 115
 letter_of Nothing = 110
 
-abbrev pub Lettered : ℕ → Letter → Type 0
-Lettered b (Is o) = letter_of o ≡ b
-Lettered b Other = (o : Order) → letter_of o ≡ b → ⊥
+abbrev pub Lettered : ℕ → Option Order → Type 0
+Lettered b (Some o) = letter_of o ≡ b
+Lettered b None = (o : Order) → letter_of o ≡ b → ⊥
 
 -- the number whose decimal digits are those of n and then these
 unfoldable pub decimal : ℕ → Bytes → ℕ
@@ -51,9 +46,9 @@ pub record Numbers (word : Bytes) (n : ℕ) : Type 0 where
   pub number : decimal 0 word ≡ n
   pub most : n ≤ most_pairs
 
-abbrev pub Numbered : Bytes → Decimal → Type 0
-Numbered word (Of n) = Numbers word n
-Numbered word Not = (n : ℕ) → Numbers word n → ⊥
+abbrev pub Numbered : Bytes → Option ℕ → Type 0
+Numbered word (Some n) = Numbers word n
+Numbered word None = (n : ℕ) → Numbers word n → ⊥
 
 -- the text's length without a newline at its end
 unfoldable pub line_end : Bytes → ℕ
@@ -65,6 +60,6 @@ pub record Asks (text : Bytes) (j : Job) : Type 0 where
   pub line : take (line_end text) text ≡ letter_of j.inserts ∷ 32 ∷ letter_of j.deletes ∷ 32 ∷ digits
   pub pairs_are : Numbers digits j.pairs
 
-abbrev pub Parsed : Bytes → Line → Type 0
-Parsed text (Asked j) = Asks text j
-Parsed text Malformed = (j : Job) → Asks text j → ⊥
+abbrev pub Parsed : Bytes → Option Job → Type 0
+Parsed text (Some j) = Asks text j
+Parsed text None = (j : Job) → Asks text j → ⊥

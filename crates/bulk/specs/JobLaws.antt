@@ -1,17 +1,11 @@
 -- The line's laws: its digits are read from the front, its words stand at fixed places, and it asks for one job only.
 -- Assumes nothing.
-use Rattle.std.specs.Prelude.{ℕ, zero, suc, ◌+◌, ◌-◌, ◌*◌, ◌≤◌, ◌<◌, Bool, cond, false, true, [], ◌∷◌, ◌≡◌, refl, eqb, drop, get_or, length, take}
-use Rattle.std.proofs.Common.{◌∙◌, ap, subst, sym, mod-lt, arith, eq-eqb, ne_eqb, length-take, drop-cons, take_all, take-suc}
+use Rattle.std.specs.Prelude.{ℕ, zero, suc, ◌+◌, ◌-◌, ◌*◌, ◌≤◌, ◌<◌, Bool, None, Some, cond, false, true, [], ◌∷◌, ◌≡◌, refl, eqb, drop, get_or, length, take}
+use Rattle.std.proofs.Common.{Option, ◌∙◌, ap, subst, sym, mod-lt, arith, eq-eqb, ne_eqb, length-take, drop-cons, take_all, take-suc}
 use Rattle.lists.specs.All.{All, all_append, all_at}
 use Rattle.order.specs.Bytes.{Bytes}
 use Rattle.bulk.specs.Job.{Asks, Lettered, Numbered, Numbers, Parsed, call_count, decimal, key_at, letter_of, line_end, most_pairs}
-use Rattle.bulk.specs.declared.job.Decimal.{Decimal}
-use Rattle.bulk.specs.declared.job.Decimal.TheVariants.{Not, Of}
 use Rattle.bulk.specs.declared.job.Job.{Job}
-use Rattle.bulk.specs.declared.job.Letter.{Letter}
-use Rattle.bulk.specs.declared.job.Letter.TheVariants.{Is, Other}
-use Rattle.bulk.specs.declared.job.Line.{Line}
-use Rattle.bulk.specs.declared.job.Line.TheVariants.{Asked, Malformed}
 use Rattle.bulk.specs.declared.job.Order.{Order}
 use Rattle.bulk.specs.declared.job.Order.TheVariants.{Falling, Nothing, Rising, Shuffled}
 
@@ -34,7 +28,7 @@ key_below Nothing i n h = h
 
 -- letters
 
-pub other_letter : (b : ℕ) → (b ≡ 114 → ⊥) → (b ≡ 102 → ⊥) → (b ≡ 115 → ⊥) → (b ≡ 110 → ⊥) → Lettered b Other
+pub other_letter : (b : ℕ) → (b ≡ 114 → ⊥) → (b ≡ 102 → ⊥) → (b ≡ 115 → ⊥) → (b ≡ 110 → ⊥) → Lettered b None
 other_letter b r f s n Rising e = r (sym e)
 other_letter b r f s n Falling e = f (sym e)
 other_letter b r f s n Shuffled e = s (sym e)
@@ -68,13 +62,13 @@ decimal_end : (n : ℕ) → decimal n [] ≡ n
 unfolding decimal
 decimal_end n = refl
 
-pub none_empty : (word : Bytes) → length word ≡ 0 → Numbered word Not
+pub none_empty : (word : Bytes) → length word ≡ 0 → Numbered word None
 none_empty word e n x = omega (arith, x.some)
 
-pub none_below : (word : Bytes) (i : ℕ) → i < length word → get_or word i 0 < 48 → Numbered word Not
+pub none_below : (word : Bytes) (i : ℕ) → i < length word → get_or word i 0 < 48 → Numbered word None
 none_below word i h l n x = omega (arith, (all_at (λ b. (48 ≤ b) × (b ≤ 57)) word i 0 h x.digits).0)
 
-pub none_above : (word : Bytes) (i : ℕ) → i < length word → 57 < get_or word i 0 → Numbered word Not
+pub none_above : (word : Bytes) (i : ℕ) → i < length word → 57 < get_or word i 0 → Numbered word None
 none_above word i h l n x = omega (arith, (all_at (λ b. (48 ≤ b) × (b ≤ 57)) word i 0 h x.digits).1)
 
 -- the loop of `number`: n is the number of the first i bytes
@@ -90,7 +84,7 @@ count_start word = record { digits = tt; number = refl; most = omega arith }
 count_next : (word : Bytes) (i n : ℕ) → i < length word → Counting word i n → decimal 0 word ≡ decimal (n * 10 + (get_or word i 0 - 48)) (drop (suc i) word)
 count_next word i n h c = c.number ∙ ap (decimal n) (drop-cons word i 0 h) ∙ decimal_step n _ _
 
-pub count_over : (word : Bytes) (i n : ℕ) → i < length word → most_pairs < n * 10 + (get_or word i 0 - 48) → Counting word i n → Numbered word Not
+pub count_over : (word : Bytes) (i n : ℕ) → i < length word → most_pairs < n * 10 + (get_or word i 0 - 48) → Counting word i n → Numbered word None
 count_over word i n h m c k x = omega (arith, x.number, x.most, count_next word i n h c, decimal_most (n * 10 + (get_or word i 0 - 48)) (drop (suc i) word))
 
 pub count_turn : (word : Bytes) (i k n : ℕ) → i < length word → k ≡ i + 1 → 48 ≤ get_or word i 0 → get_or word i 0 ≤ 57 → n * 10 + (get_or word i 0 - 48) ≤ most_pairs → Counting word i n
@@ -189,29 +183,33 @@ asks_one {text} {i} {j} a b =
 
 -- what a text asks for, and why it asks for nothing, by what is told of its parts
 
+-- a line of fewer than four bytes, or without its spaces, asks for nothing
+pub no_form : {text line : Bytes} → line ≡ take (line_end text) text → ((o p : Order) (digits : Bytes) → line ≡ letter_of o ∷ 32 ∷ letter_of p ∷ 32 ∷ digits → ⊥) → Parsed text None
+no_form e n j a = n j.inserts j.deletes a.digits (e ∙ a.line)
+
 module _ (text : Bytes) where
-  pub short_line : (e : ℕ) → e ≡ line_end text → e < 4 → Parsed text Malformed
+  pub short_line : (e : ℕ) → e ≡ line_end text → e < 4 → Parsed text None
   short_line e p h j a = omega (arith, (spelled a).long)
 
-  pub no_gap : (get_or text 1 0 ≡ 32 → ⊥) → Parsed text Malformed
+  pub no_gap : (get_or text 1 0 ≡ 32 → ⊥) → Parsed text None
   no_gap n j a = n (spelled a).gap
 
-  pub no_gap_2 : (get_or text 3 0 ≡ 32 → ⊥) → Parsed text Malformed
+  pub no_gap_2 : (get_or text 3 0 ≡ 32 → ⊥) → Parsed text None
   no_gap_2 n j a = n (spelled a).gap_2
 
-  pub no_first : {l : Letter} → l ≡ Other → Lettered (get_or text 0 0) l → Parsed text Malformed
+  pub no_first : {l : Option Order} → l ≡ None → Lettered (get_or text 0 0) l → Parsed text None
   no_first p n j a = (rw p at n) j.inserts (spelled a).first
 
-  pub no_second : {l : Letter} → l ≡ Other → Lettered (get_or text 2 0) l → Parsed text Malformed
+  pub no_second : {l : Option Order} → l ≡ None → Lettered (get_or text 2 0) l → Parsed text None
   no_second p n j a = (rw p at n) j.deletes (spelled a).second
 
-  pub no_number : {d : Decimal} (e : ℕ) → e ≡ line_end text → d ≡ Not → Numbered (take (e - 4) (drop 4 text)) d → Parsed text Malformed
+  pub no_number : {d : Option ℕ} (e : ℕ) → e ≡ line_end text → d ≡ None → Numbered (take (e - 4) (drop 4 text)) d → Parsed text None
   no_number e p q n j a = (rw (q, p) at n) j.pairs (spelled a).pairs_are
 
-  pub asked : {l m : Letter} {d : Decimal} {o p : Order} {n : ℕ} (e : ℕ) → e ≡ line_end text → 4 ≤ e → get_or text 1 0 ≡ 32 → get_or text 3 0 ≡ 32
-      → l ≡ Is o → Lettered (get_or text 0 0) l → m ≡ Is p → Lettered (get_or text 2 0) m → d ≡ Of n → Numbered (take (e - 4) (drop 4 text)) d
+  pub asked : {l m : Option Order} {d : Option ℕ} {o p : Order} {n : ℕ} (e : ℕ) → e ≡ line_end text → 4 ≤ e → get_or text 1 0 ≡ 32 → get_or text 3 0 ≡ 32
+      → l ≡ Some o → Lettered (get_or text 0 0) l → m ≡ Some p → Lettered (get_or text 2 0) m → d ≡ Some n → Numbered (take (e - 4) (drop 4 text)) d
       → Asks text (record { inserts = o; deletes = p; pairs = n })
   asked e q h g k a x b y c z = asks (record { long = omega arith; first = rw a at x; gap = g; second = rw b at y; gap_2 = k; pairs_are = rw (c, q) at z })
 
-pub asked_most : (text : Bytes) {l : Line} {j : Job} → l ≡ Asked j → Parsed text l → j.pairs ≤ most_pairs
-asked_most text e x = (subst (λ (l : Line). Parsed text l) e x).pairs_are.most
+pub asked_most : (text : Bytes) {r : Option Job} {j : Job} → r ≡ Some j → Parsed text r → j.pairs ≤ most_pairs
+asked_most text e x = (subst (λ (l : Option Job). Parsed text l) e x).pairs_are.most

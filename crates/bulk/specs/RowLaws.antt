@@ -13,9 +13,11 @@ use Rattle.model.specs.Leaves.{Node}
 use Rattle.order.specs.Bytes.{Bytes}
 use Rattle.tree_insert.specs.Kept.{insert_keeps}
 use Rattle.tree_remove.specs.Kept.{remove_keeps}
-use Rattle.bulk.specs.Bulk.{Call, Calls, Counted, InsertOne, RemoveOne, Store, begun, finds, four_bytes, lends, refusals}
+use Rattle.bulk.specs.Bulk.{Call, CallOne, Calls, Counted, InsertOne, RemoveOne, Store, begun, finds, four_bytes, lends, refusals}
 use Rattle.bulk.specs.Bulk.Calls.{more, start}
 use Rattle.bulk.specs.Job.{key_at}
+use Rattle.bulk.specs.declared.Kind.{Kind}
+use Rattle.bulk.specs.declared.Kind.TheVariants.{Insert, Remove}
 use Rattle.bulk.specs.declared.Tally.{Tally}
 use Rattle.bulk.specs.declared.job.Order.{Order}
 
@@ -122,3 +124,7 @@ module _ (o : Order) (n : ℕ) {h : Header} {t : Tally} {s₀ s : Store} {i : �
 
   pub removes_stand : Index h s₀.dir s₀.slots s₀.arena → Calls (λ j. RemoveOne (key_at o j n)) (begun h) s₀ i t s → Index t.header s.dir s.slots s.arena
   removes_stand x a = record { nodes = _; presumed = (removes_told x.presumed a).presumed }
+
+  pub calls_stand : (kind : Kind) → Index h s₀.dir s₀.slots s₀.arena → Calls (λ j. CallOne kind (key_at o j n) j) (begun h) s₀ i t s → Index t.header s.dir s.slots s.arena
+  calls_stand Insert = inserts_stand
+  calls_stand Remove = removes_stand

@@ -1,11 +1,11 @@
 // What is asked: a line such as `r s 20000`, the orders of the inserts and of the deletes and the number of pairs.
-ghost use Rattle.std.specs.Prelude.{◌<◌, ◌≤◌, ◌≡◌};
+ghost use Rattle.std.specs.Prelude.{◌<◌, ◌≤◌, ◌≡◌, take};
 ghost use Rattle.bulk.specs.Job.{Lettered, Numbered, Parsed, call_count, key_at, line_end, most_pairs};
 
 const MOST_PAIRS: usize = 20000;
 
-// The orders of keys, each a letter of the line: r, f, s, and n for no calls.
-#[derive(Clone, Copy)]
+/// The orders of keys, each a letter of the line: r, f, s, and n for no calls.
+#[derive(Clone, Copy, Debug, PartialEq, Eq)]
 pub enum Order {
     Rising,
     Falling,
@@ -13,38 +13,18 @@ pub enum Order {
     Nothing,
 }
 
-#[derive(Clone, Copy)]
+#[derive(Clone, Copy, Debug, PartialEq, Eq)]
 pub struct Job {
     pub inserts: Order,
     pub deletes: Order,
     pub pairs: usize,
 }
 
-#[derive(Clone, Copy)]
-pub enum Line {
-    Asked(Job),
-    Malformed,
-}
-
-#[derive(Clone, Copy)]
-enum Letter {
-    Is(Order),
-    Other,
-}
-
-#[derive(Clone, Copy)]
-enum Decimal {
-    Of(usize),
-    Not,
-}
-
 pub fn call_count(o: Order, n: usize) -> usize
     ensures { result ≡ call_count o n }
 {
     match o {
-        Order::Rising => n,
-        Order::Falling => n,
-        Order::Shuffled => n,
+        Order::Rising | Order::Falling | Order::Shuffled => n,
         Order::Nothing => 0,
     }
 }
@@ -55,84 +35,64 @@ pub fn key_at(o: Order, i: usize, n: usize) -> usize
     ensures { result ≡ key_at o i n }
 {
     match o {
-        Order::Rising => i,
+        Order::Rising | Order::Nothing => i,
         Order::Falling => n - 1 - i,
         Order::Shuffled => i * 7919 % n,
-        Order::Nothing => i,
     }
 }
 
-fn order_of(b: u8) -> Letter
+fn order_of(b: u8) -> Option<Order>
     ensures { Lettered b result }
 {
     match b {
-        b'r' => Letter::Is(Order::Rising),
-        b'f' => Letter::Is(Order::Falling),
-        b's' => Letter::Is(Order::Shuffled),
-        b'n' => Letter::Is(Order::Nothing),
-        _ => Letter::Other,
+        b'r' => Some(Order::Rising),
+        b'f' => Some(Order::Falling),
+        b's' => Some(Order::Shuffled),
+        b'n' => Some(Order::Nothing),
+        _ => None,
     }
 }
 
 // The number of a word of digits, where it is not above the most.
-fn number(word: &[u8]) -> Decimal
+fn number(word: &[u8]) -> Option<usize>
     ensures { Numbered word.now result }
 {
-    if word.len() == 0 {
-        return Decimal::Not;
+    if word.is_empty() {
+        return None;
     }
     let mut n = 0;
-    let mut i = 0;
-    while i < word.len() {
-        let b = word[i];
-        if b < b'0' || b'9' < b {
-            return Decimal::Not;
+    for &b in word {
+        if !b.is_ascii_digit() {
+            return None;
         }
         n = n * 10 + (b - b'0') as usize;
         if MOST_PAIRS < n {
-            return Decimal::Not;
+            return None;
         }
-        i += 1;
     }
-    Decimal::Of(n)
+    Some(n)
 }
 
-// The line's length without its newline.
-fn line_end(text: &[u8]) -> usize
-    ensures { result ≡ line_end text.now }
+// The text without a newline at its end.
+fn line_of(text: &[u8]) -> &[u8]
+    ensures { result.now ≡ take (line_end text.now) text.now }
 {
-    let n = text.len();
-    if n == 0 {
-        return 0;
+    match text {
+        [line @ .., b'\n'] => line,
+        _ => text,
     }
-    if text[n - 1] == b'\n' {
-        return n - 1;
-    }
-    n
 }
 
-pub fn parse(text: &[u8]) -> Line
+/// The job that a text asks for, if it does.
+pub fn parse(text: &[u8]) -> Option<Job>
     ensures { Parsed text.now result }
 {
-    let end = line_end(text);
-    if end < 4 {
-        return Line::Malformed;
-    }
-    if text[1] != b' ' || text[3] != b' ' {
-        return Line::Malformed;
-    }
-    let Letter::Is(inserts) = order_of(text[0]) else {
-        return Line::Malformed;
+    let [inserts, b' ', deletes, b' ', digits @ ..] = line_of(text) else {
+        return None;
     };
-    let Letter::Is(deletes) = order_of(text[2]) else {
-        return Line::Malformed;
-    };
-    let Decimal::Of(pairs) = number(&text[4..end]) else {
-        return Line::Malformed;
-    };
-    Line::Asked(Job {
-        inserts: inserts,
-        deletes: deletes,
-        pairs: pairs,
+    Some(Job {
+        inserts: order_of(*inserts)?,
+        deletes: order_of(*deletes)?,
+        pairs: number(digits)?,
     })
 }

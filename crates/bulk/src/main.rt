@@ -4,13 +4,13 @@
 
 ghost use Rattle.std.specs.Prelude.{◌<◌, ◌≤◌, ◌≡◌, length};
 ghost use Rattle.layout.specs.Presumed.{Index};
-ghost use Rattle.bulk.specs.Bulk.{Counted, InsertOne, Inserts, Ran, RemoveOne, Removes, four_bytes, store};
+ghost use Rattle.bulk.specs.Bulk.{CallAll, CallOne, Counted, Ran, four_bytes, store};
 ghost use Rattle.bulk.specs.Job.{most_pairs};
 
 mod job;
 
-use changes::{Changed, Old};
-use job::{Job, Line, Order, call_count, key_at, parse};
+use changes::Changed;
+use job::{Job, Order, call_count, key_at, parse};
 use layout::Header;
 use std::io;
 use std::io::{Read, Write};
@@ -20,6 +20,12 @@ use tree_read::check::holds_index;
 use tree_remove::inner::remove;
 
 const FANOUT: usize = 64;
+
+#[derive(Clone, Copy, Debug, PartialEq, Eq)]
+enum Kind {
+    Insert,
+    Remove,
+}
 
 // What a row of calls left: the header, how many calls were refused, and how many found their key.
 #[derive(Clone, Copy)]
@@ -31,42 +37,35 @@ struct Tally {
 
 // Four bytes, most significant first, so that byte strings rise as the numbers do.
 fn bytes_of(n: usize) -> [u8; 4]
+    requires { n < most_pairs }
     ensures { result ≡ four_bytes n }
 {
-    [
-        (n / 16777216 % 256) as u8,
-        (n / 65536 % 256) as u8,
-        (n / 256 % 256) as u8,
-        (n % 256) as u8,
-    ]
+    (n as u32).to_be_bytes()
 }
 
 fn count(t: Tally, c: Changed) -> Tally
     requires { (t.refused < most_pairs) × (t.found < most_pairs) }
     ensures { Counted t c result }
 {
-    let h = c.header;
-    let old = c.old;
-    match old {
-        Old::Value(_) => Tally {
-            header: h,
-            refused: t.refused,
+    let header = c.header;
+    match c.old {
+        Ok(Some(_)) => Tally {
+            header,
             found: t.found + 1,
+            ..t
         },
-        Old::Nothing => Tally {
-            header: h,
-            refused: t.refused,
-            found: t.found,
-        },
-        Old::Refused(_) => Tally {
-            header: h,
+        Ok(None) => Tally { header, ..t },
+        Err(_) => Tally {
+            header,
             refused: t.refused + 1,
-            found: t.found,
+            ..t
         },
     }
 }
 
-fn insert_one(
+// A removal needs no value.
+fn call_one(
+    kind: Kind,
     h: Header,
     dir: &mut [u32],
     slots: &mut [u64],
@@ -74,56 +73,19 @@ fn insert_one(
     key: usize,
     value: usize,
 ) -> Changed
-    requires { Index h dir.old slots.old arena.old }
-    ensures { InsertOne key value h (store dir.old slots.old arena.old) result (store dir.new slots.new arena.new) }
+    requires { Index h dir.old slots.old arena.old × (key < most_pairs) × (value < most_pairs) }
+    ensures { CallOne kind key value h (store dir.old slots.old arena.old) result (store dir.new slots.new arena.new) }
 {
-    let k = bytes_of(key);
-    let v = bytes_of(value);
+    let key = bytes_of(key);
     let mut old = [0u8; 4];
-    insert(h, dir, slots, arena, &k, &v, &mut old)
-}
-
-fn remove_one(
-    h: Header,
-    dir: &mut [u32],
-    slots: &mut [u64],
-    arena: &mut [u8],
-    key: usize,
-) -> Changed
-    requires { Index h dir.old slots.old arena.old }
-    ensures { RemoveOne key h (store dir.old slots.old arena.old) result (store dir.new slots.new arena.new) }
-{
-    let k = bytes_of(key);
-    let mut old = [0u8; 4];
-    remove(h, dir, slots, arena, &k, &mut old)
-}
-
-fn insert_all(
-    h: Header,
-    dir: &mut [u32],
-    slots: &mut [u64],
-    arena: &mut [u8],
-    order: Order,
-    n: usize,
-) -> Tally
-    requires { Index h dir.old slots.old arena.old × (n ≤ most_pairs) }
-    ensures { Inserts order n h (store dir.old slots.old arena.old) result (store dir.new slots.new arena.new) }
-{
-    let mut t = Tally {
-        header: h,
-        refused: 0,
-        found: 0,
-    };
-    let mut i = 0;
-    while i < n {
-        let c = insert_one(t.header, dir, slots, arena, key_at(order, i, n), i);
-        t = count(t, c);
-        i += 1;
+    match kind {
+        Kind::Insert => insert(h, dir, slots, arena, &key, &bytes_of(value), &mut old),
+        Kind::Remove => remove(h, dir, slots, arena, &key, &mut old),
     }
-    t
 }
 
-fn remove_all(
+fn call_all(
+    kind: Kind,
     h: Header,
     dir: &mut [u32],
     slots: &mut [u64],
@@ -132,18 +94,17 @@ fn remove_all(
     n: usize,
 ) -> Tally
     requires { Index h dir.old slots.old arena.old × (n ≤ most_pairs) }
-    ensures { Removes order n h (store dir.old slots.old arena.old) result (store dir.new slots.new arena.new) }
+    ensures { CallAll kind order n h (store dir.old slots.old arena.old) result (store dir.new slots.new arena.new) }
 {
     let mut t = Tally {
         header: h,
         refused: 0,
         found: 0,
     };
-    let mut i = 0;
-    while i < n {
-        let c = remove_one(t.header, dir, slots, arena, key_at(order, i, n));
+    for i in 0..n {
+        let key = key_at(order, i, n);
+        let c = call_one(kind, t.header, dir, slots, arena, key, i);
         t = count(t, c);
-        i += 1;
     }
     t
 }
@@ -174,32 +135,33 @@ fn run<W: Write>(
     if !holds_index(h, dir, slots, arena) {
         return writeln!(writer, "no index");
     }
-    let inserts = j.inserts;
-    let full = insert_all(h, dir, slots, arena, inserts, call_count(inserts, j.pairs));
+    let inserts = call_count(j.inserts, j.pairs);
+    let full = call_all(Kind::Insert, h, dir, slots, arena, j.inserts, inserts);
     let full_written = write_tally("inserts", full, writer);
-    let deletes = j.deletes;
-    let left = remove_all(
+    let deletes = call_count(j.deletes, j.pairs);
+    let left = call_all(
+        Kind::Remove,
         full.header,
         dir,
         slots,
         arena,
+        j.deletes,
         deletes,
-        call_count(deletes, j.pairs),
     );
     let left_written = write_tally("deletes", left, writer);
     full_written.and(left_written)
 }
 
-// Reads until the buffer is full, the input ends or a read fails: how many bytes came.
+// Reads until the buffer is full, the input ends or a read fails: how many bytes came. `read_exact` doesn't tell how many, where the input is
+// shorter, and tries an interrupted read again.
 fn read_front<R: Read>(reader: &mut R, buffer: &mut [u8]) -> usize
     ensures { result ≤ length buffer.new }
 {
     let mut done = 0;
     while done < buffer.len() {
         match reader.read(&mut buffer[done..]) {
-            Ok(0) => return done,
+            Ok(0) | Err(_) => break,
             Ok(n) => done += n,
-            Err(_) => return done,
         }
     }
     done
@@ -215,7 +177,7 @@ fn answer<R: Read, W: Write>(
 ) -> io::Result<()> {
     let mut text = [0u8; 16];
     let got = read_front(reader, &mut text);
-    let Line::Asked(j) = parse(&text[..got]) else {
+    let Some(j) = parse(&text[..got]) else {
         return writeln!(writer, "bad line");
     };
     run(j, dir, slots, arena, writer)

@@ -2,15 +2,14 @@
 -- equal; of the used words all is equal but where a part lies in the arena, and so are the bytes of each part; a refused call leaves every
 -- lent byte the same.
 -- Assumes nothing.
-use Rattle.std.specs.Prelude.{◌+◌, ◌<◌, suc, ℕ, List, [], ◌++◌, ◌≡◌, refl, drop, get_or, take}
+use Rattle.std.specs.Prelude.{◌+◌, ◌<◌, suc, ℕ, List, [], ◌++◌, ◌≡◌, refl, drop, get_or, take, Err, Ok}
 use Rattle.std.proofs.Math.Option.{Option, none, some}
-use Rattle.std.proofs.Common.{◌∙◌, subst, arith, drop_at}
+use Rattle.std.proofs.Common.{◌∙◌, subst, arith, drop_at, Result}
+use Rattle.std.proofs.Common as rust
 use Rattle.std.proofs.Math.Path.{ap, ap₂, sym}
 use Rattle.std.proofs.Math.ListN.{length}
 use Rattle.changes.specs.Outcomes.{ChangedBy, Lent, Made, old_told}
 use Rattle.changes.specs.declared.Changed.{Changed}
-use Rattle.changes.specs.declared.Old.{Old}
-use Rattle.changes.specs.declared.Old.TheVariants.{Nothing, Refused, Value}
 use Rattle.layout.specs.Buffers.{low_at, low_word, pair_at, slot_words, suffix_at, value_at, value_place}
 use Rattle.layout.specs.Lays.{Holds, LaysLeaf, buffers}
 use Rattle.layout.specs.LaysParts.{WordInside}
@@ -57,7 +56,7 @@ pub record Same (r : Changed) (l : Lent) (q : Changed) (m : Lent) : Type 0 where
   pub slot_lengths : length l.slots ≡ length m.slots
   pub arena_lengths : length l.arena ≡ length m.arena
   pub leaves : (j : ℕ) → j < r.header.leaves → SameLeaf r.header.fanout l m j
-  pub kept : (x : Refusal) → r.old ≡ Refused x → l ≡ m
+  pub kept : (x : Refusal) → r.old ≡ Err x → l ≡ m
 
 -- one part in two arenas
 
@@ -142,12 +141,11 @@ own_leaf fanout l j = record {
   slots = λ i c. record { suffixes = refl; values = refl; bytes = refl };
 }
 
-abbrev refused_as : Old → ℕ
-refused_as (Value n) = 0
-refused_as Nothing = 0
-refused_as (Refused x) = 1
+abbrev refused_as : Result (rust.Option ℕ) Refusal → ℕ
+refused_as (Ok o) = 0
+refused_as (Err x) = 1
 
-told_not_refused : (o : Option Bytes) (x : Refusal) → old_told o ≡ Refused x → ⊥
+told_not_refused : (o : Option Bytes) (x : Refusal) → old_told o ≡ Err x → ⊥
 told_not_refused o x e = let z : refused_as (old_told o) ≡ 1 = ap refused_as e in go o z
   where
     go : (o : Option Bytes) → refused_as (old_told o) ≡ 1 → ⊥

@@ -1,19 +1,20 @@
 -- What `insert` and `remove` hand back and leave, by the model's answer: the old value's length or none, the header, every lent buffer.
-use Rattle.std.specs.Prelude.{ℕ, ◌≤◌, List, [], ◌≡◌, length}
-use Rattle.std.proofs.Math.Option.{Option, none, some}
+use Rattle.std.proofs.Common.{Option, Result}
+use Rattle.std.specs.Prelude.{ℕ, ◌≤◌, List, [], ◌≡◌, length, Err, None, Ok, Some}
+use Rattle.std.proofs.Math.Option.{none, some}
+use Rattle.std.proofs.Math.Option as math
 use Rattle.layout.specs.Lays.{Holds}
 use Rattle.layout.specs.Pieces.{pair_in}
-use Rattle.layout.specs.Presumed.{Inner}
+use Rattle.layout.specs.Viewed.{leaves_of}
 use Rattle.layout.specs.declared.Header.{Header}
+use Rattle.layout.specs.declared.lent.View.{View}
 use Rattle.lists.specs.Part.{put}
-use Rattle.model.specs.Answers.{Answer, Code, Gives, accepted, code_of, no_refusal, refused}
+use Rattle.model.specs.Answers.{Answer, Gives, accepted, code_of, no_refusal, refused, result_code}
 use Rattle.model.specs.Answers as model
 use Rattle.model.specs.Leaves.{Node}
 use Rattle.model.specs.declared.Refusal.{Refusal}
 use Rattle.order.specs.Bytes.{Bytes}
 use Rattle.changes.specs.declared.Changed.{Changed}
-use Rattle.changes.specs.declared.Old.{Old}
-use Rattle.changes.specs.declared.Old.TheVariants.{Nothing, Refused, Value}
 use Rattle.spots.specs.Spots.{SpotIn}
 use Rattle.spots.specs.declared.Spot.{Spot}
 
@@ -27,24 +28,19 @@ pub record Lent : Type 0 where
 abbrev pub lent : (dir slots arena out : List ℕ) → Lent
 lent dir slots arena out = record { dir = dir; slots = slots; arena = arena; out = out }
 
--- document 01's number and length of an answer
-abbrev pub old_code : Old → Code
-old_code (Value n) = no_refusal
-old_code Nothing = no_refusal
-old_code (Refused x) = code_of x
-
-abbrev pub old_told : Option Bytes → Old
-old_told none = Nothing
-old_told (some v) = Value (length v)
+-- an accepted call's answer: the old value's length or none
+abbrev pub old_told : math.Option Bytes → Result (Option ℕ) Refusal
+old_told none = Ok None
+old_told (some v) = Ok (Some (length v))
 
 -- the bytes written to the output
-abbrev pub old_bytes : Option Bytes → Bytes
+abbrev pub old_bytes : math.Option Bytes → Bytes
 old_bytes none = []
 old_bytes (some v) = v
 
 -- refused: the header handed back as it came, every lent byte as it was
 pub record Kept (x : Refusal) (h : Header) (before : Lent) (r : Changed) (after : Lent) : Type 0 where
-  pub answer : Gives old_code (Refused x) (code_of x) r.old
+  pub answer : Gives result_code (Err x) (code_of x) r.old
   pub header_is : r.header ≡ h
   pub dir_is : after.dir ≡ before.dir
   pub slots_are : after.slots ≡ before.slots
@@ -53,7 +49,7 @@ pub record Kept (x : Refusal) (h : Header) (before : Lent) (r : Changed) (after 
 
 -- accepted: the buffers hold the leaf list, the old value is at the output's front, the rest of the output and the lengths of the other buffers are as they were
 pub record Made (c : model.Changed) (h : Header) (before : Lent) (r : Changed) (after : Lent) : Type 0 where
-  pub answer : Gives old_code (old_told c.old) no_refusal r.old
+  pub answer : Gives result_code (old_told c.old) no_refusal r.old
   pub fanout_is : r.header.fanout ≡ h.fanout
   pub holds : Holds r.header after.dir after.slots after.arena c.nodes
   pub out_is : after.out ≡ put before.out 0 (old_bytes c.old)
@@ -70,10 +66,10 @@ ChangedBy (accepted c) h before r after = Made c h before r after
 abbrev pub value_in : List Node → Spot → Bytes
 value_in ns t = (pair_in ns t.leaf t.slot).value
 
-pub record CanWriteOld (h : Header) (dir slots arena : List ℕ) (t : Spot) (out : List ℕ) : Type 0 where
-  pub spot : SpotIn h dir slots arena t
-  pub fits : Inner h dir slots arena (λ ns. length (value_in ns t) ≤ length out)
+pub record CanWriteOld (v : View) (t : Spot) (out : List ℕ) : Type 0 where
+  pub spot : SpotIn v.header v.dir.now t
+  pub fits : length (value_in (leaves_of v) t) ≤ length out
 
-pub record WroteOld (h : Header) (dir slots arena : List ℕ) (t : Spot) (out : List ℕ) (r : ℕ) (now_out : List ℕ) : Type 0 where
-  pub size : Inner h dir slots arena (λ ns. r ≡ length (value_in ns t))
-  pub written : Inner h dir slots arena (λ ns. now_out ≡ put out 0 (value_in ns t))
+pub record WroteOld (t : Spot) (out : List ℕ) (r : ℕ) (now_out : List ℕ) (ns : List Node) : Type 0 where
+  pub size : r ≡ length (value_in ns t)
+  pub written : now_out ≡ put out 0 (value_in ns t)

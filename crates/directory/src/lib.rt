@@ -4,7 +4,7 @@
 ghost use Rattle.directory.specs.Cuts.{CanCut, CutLeaf};
 ghost use Rattle.directory.specs.Takes.{CanTakeOver, TakenOver};
 
-use moves::{move_entries, move_words};
+use moves::move_within;
 use words::{
     LeafNo, LowKey, first_slot, leaf_number, low_key_slot, pack_directory, pack_low_key, pair_count,
 };
@@ -27,13 +27,12 @@ pub fn cut_leaf(
     let word = dir[j];
     let number = leaf_number(word);
     let right = pair_count(word) - i;
-    let from = first_slot(fanout, number);
-    let to = first_slot(fanout, free);
-    move_words(slots, from.0 + i, right, to.0);
-    let place = low_key_slot(fanout, free);
-    let at = place.0;
+    let from = first_slot(fanout, number).0;
+    let to = first_slot(fanout, free).0;
+    move_within(slots, from + i, right, to);
+    let at = low_key_slot(fanout, free).0;
     slots[at] = pack_low_key(low);
-    move_entries(dir, j + 1, leaves - (j + 1), j + 2);
+    move_within(dir, j + 1, leaves - (j + 1), j + 2);
     dir[j + 1] = pack_directory(free, right);
     dir[j] = pack_directory(number, i);
 }
@@ -47,9 +46,9 @@ pub fn take_over(dir: &mut [u32], slots: &mut [u64], fanout: usize, leaves: usiz
     let taker = leaf_number(dir[j]);
     let next = dir[j + 1];
     let pairs = pair_count(next);
-    let to = first_slot(fanout, taker);
-    let from = first_slot(fanout, leaf_number(next));
-    move_words(slots, from.0, pairs, to.0);
+    let to = first_slot(fanout, taker).0;
+    let from = first_slot(fanout, leaf_number(next)).0;
+    move_within(slots, from, pairs, to);
     dir[j] = pack_directory(taker, pairs);
-    move_entries(dir, j + 2, leaves - (j + 2), j + 1)
+    move_within(dir, j + 2, leaves - (j + 2), j + 1)
 }

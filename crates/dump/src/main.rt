@@ -1,8 +1,10 @@
 // The dump of docs/LAYOUT.md: document 01's run in buffers of a pattern, then the header, every word and every byte, and what two calls read.
+// (Header and buffers stay apart, as the entry points take them.)
 #![tactic(auto)]
 
 use layout::Header;
 use model::{Bound, Range};
+use std::fmt::Radix;
 use std::io;
 use std::io::Write;
 use tree_create::create;
@@ -20,17 +22,16 @@ fn put(
     value: &[u8],
 ) -> Header {
     let mut old = [0u8; 1];
-    let r = insert(h, dir, slots, arena, key, value, &mut old);
-    r.header
+    insert(h, dir, slots, arena, key, value, &mut old).header
 }
 
 // `new 3 4 64` and the three puts.
 fn run(dir: &mut [u32], slots: &mut [u64], arena: &mut [u8]) -> Header {
-    let r = create(3, dir, slots, arena);
-    let fresh = r.header;
-    let one = put(fresh, dir, slots, arena, b"\x61", b"\x01");
-    let two = put(one, dir, slots, arena, b"\x62", b"\x02");
-    put(two, dir, slots, arena, b"\x63", b"\x03")
+    let mut h = create(3, dir, slots, arena).header;
+    for (key, value) in [(b"\x61", b"\x01"), (b"\x62", b"\x02"), (b"\x63", b"\x03")] {
+        h = put(h, dir, slots, arena, key, value);
+    }
+    h
 }
 
 fn write_header<W: Write>(h: Header, writer: &mut W) -> io::Result<()> {
@@ -38,16 +39,15 @@ fn write_header<W: Write>(h: Header, writer: &mut W) -> io::Result<()> {
     writeln!(writer, " pairs {} charge {}", h.pairs, h.charge)
 }
 
-fn write_directory<W: Write>(dir: &[u32], writer: &mut W) -> io::Result<()> {
-    for (i, word) in dir.iter().enumerate() {
-        writeln!(writer, "directory {i} {word:08x}")?;
-    }
-    Ok(())
-}
-
-fn write_slots<W: Write>(slots: &[u64], writer: &mut W) -> io::Result<()> {
-    for (i, word) in slots.iter().enumerate() {
-        writeln!(writer, "slot {i} {word:016x}")?;
+// A line for each word, all its digits in base 16.
+fn write_words<T: Radix + Copy, W: Write>(
+    name: &str,
+    words: &[T],
+    digits: usize,
+    writer: &mut W,
+) -> io::Result<()> {
+    for (i, word) in words.iter().enumerate() {
+        writeln!(writer, "{name} {i} {word:0digits$x}")?;
     }
     Ok(())
 }
@@ -62,12 +62,9 @@ fn write_bytes<W: Write>(name: &str, bytes: &[u8], writer: &mut W) -> io::Result
 
 // Rows of 16 bytes, each with its place.
 fn write_arena<W: Write>(arena: &[u8], writer: &mut W) -> io::Result<()> {
-    let mut i = 0;
-    while 16 <= arena.len() - i {
-        let e = i + 16;
-        write!(writer, "arena {i}")?;
-        write_bytes("", &arena[i..e], writer)?;
-        i = e;
+    for (row, bytes) in arena.chunks_exact(16).enumerate() {
+        write!(writer, "arena {}", 16 * row)?;
+        write_bytes("", bytes, writer)?;
     }
     Ok(())
 }
@@ -97,8 +94,8 @@ fn write_dump<W: Write>(
     writer: &mut W,
 ) -> io::Result<()> {
     write_header(h, writer)?;
-    write_directory(dir, writer)?;
-    write_slots(slots, writer)?;
+    write_words("directory", dir, 8, writer)?;
+    write_words("slot", slots, 16, writer)?;
     write_arena(arena, writer)?;
     write_values(h, dir, slots, arena, writer)
 }

@@ -3,7 +3,7 @@
 -- Assumes nothing.
 use Rattle.std.specs.Prelude.{◌<◌, ◌≤◌, suc, zero, ℕ, List, ◌≡◌, refl}
 use Rattle.std.proofs.Math.Option.{none}
-use Rattle.std.proofs.Common.{◌∙◌, ap, sym, arith}
+use Rattle.std.proofs.Common.{Option, Result, ◌∙◌, ap, sym, arith}
 use Rattle.changes.specs.Coincide as changes
 use Rattle.changes.specs.Outcomes.{Lent}
 use Rattle.changes.specs.declared.Changed.{Changed}
@@ -31,7 +31,7 @@ use Rattle.tree_get.specs.Coincide as reads
 use Rattle.tree_insert.specs.Coincide as inserts
 use Rattle.tree_range.specs.Coincide as scans
 use Rattle.tree_range.specs.Outcomes.{RangeOutcome}
-use Rattle.tree_range.specs.declared.Scan.{Scan}
+use Rattle.tree_range.specs.declared.Seen.{Seen}
 use Rattle.tree_remove.specs.Coincide as removes
 
 -- two answers that coincide are told alike
@@ -124,7 +124,7 @@ bound_open (suc zero) h = absurd (omega arith)
 bound_open (suc (suc n)) h = refl
 
 -- a range whose kinds are read from numbers
-pub range_told : {h : Header} {dir slots arena : List ℕ} (from to : ℕ) (s e : Bytes) {out now_out : Bytes} {b c : Bound} (a : Scan) {r : Scanned} → b ≡ bound_read from → c ≡ bound_read to
+pub range_told : {h : Header} {dir slots arena : List ℕ} (from to : ℕ) (s e : Bytes) {out now_out : Bytes} {b c : Bound} (a : Result (Option Seen) Refusal) {r : Scanned} → b ≡ bound_read from → c ≡ bound_read to
     → RangeOutcome h dir slots arena (record { start = b; end = c }) s e out now_out a → r ≡ scan_told a → RangeReply h dir slots arena from to s e out now_out r
 range_told from to s e a f g o t = record { answer = a; allowed = rw (f, g) at o; told = t }
 

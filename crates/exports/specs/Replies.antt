@@ -1,52 +1,39 @@
 -- What the exported calls return: an outcome of the entry point behind each, told in document 01's numbers.
-use Rattle.std.specs.Prelude.{suc, zero, ℕ, List, ◌≡◌}
-use Rattle.std.proofs.Math.Option.{Option, none, some}
+use Rattle.std.proofs.Common.{Option, Result}
+use Rattle.std.specs.Prelude.{suc, zero, ℕ, Bool, true, false, List, ◌≡◌, Some, None, Ok, Err}
+use Rattle.std.proofs.Math.Option as math
+use Rattle.std.proofs.Math.Option.{none, some}
 use Rattle.changes.specs.Outcomes.{Lent}
 use Rattle.changes.specs.declared.Changed.{Changed}
-use Rattle.changes.specs.declared.Old.{Old}
-use Rattle.changes.specs.declared.Old.TheVariants as old
 use Rattle.exports.specs.declared.Reply.{Reply}
 use Rattle.exports.specs.declared.Told.{Told}
 use Rattle.exports.specs.declared.reads.Place.{Place}
 use Rattle.exports.specs.declared.reads.Shown.{Shown}
-use Rattle.exports.specs.declared.reads.UpperPart.{UpperPart}
 use Rattle.exports.specs.declared.scans.Scanned.{Scanned}
 use Rattle.exports.specs.declared.scans.Span.{Span}
 use Rattle.exports.specs.declared.writes.OldPart.{OldPart}
 use Rattle.exports.specs.declared.writes.OldReply.{OldReply}
 use Rattle.layout.specs.declared.Header.{Header}
-use Rattle.leaf.specs.declared.Upper.{Upper}
-use Rattle.leaf.specs.declared.Upper.TheVariants as upper
 use Rattle.model.specs.Answers.{length_of, number_of}
 use Rattle.model.specs.declared.Bound.{Bound}
 use Rattle.model.specs.declared.Bound.TheVariants.{Excluded, Included, Open}
 use Rattle.model.specs.declared.Refusal.{Refusal}
 use Rattle.order.specs.Bytes.{Bytes}
 use Rattle.prefixes.specs.Outcome.{PrefixOutcome}
-use Rattle.prefixes.specs.declared.Prefixed.{Prefixed}
-use Rattle.prefixes.specs.declared.Prefixed.TheVariants as prefixed
+use Rattle.prefixes.specs.declared.Span as prefix
 use Rattle.tree_create.specs.Outcomes.{ClearOutcome, CreateOutcome, LenOutcome}
 use Rattle.tree_create.specs.declared.Answered.{Answered}
-use Rattle.tree_create.specs.declared.Change.{Change}
-use Rattle.tree_create.specs.declared.Change.TheVariants.{Done, Refused}
-use Rattle.tree_create.specs.declared.Length.{Length}
-use Rattle.tree_create.specs.declared.Length.TheVariants.{Pairs, Unmeasured}
 use Rattle.tree_get.specs.Outcomes.{ContainsOutcome, GetOutcome, LeafOutcome}
-use Rattle.tree_get.specs.declared.Contained.{Contained}
-use Rattle.tree_get.specs.declared.Contained.TheVariants.{No, Unasked, Yes}
 use Rattle.tree_get.specs.declared.Found.{Found}
-use Rattle.tree_get.specs.declared.Found.TheVariants as found
 use Rattle.tree_get.specs.declared.Shown as looked
-use Rattle.tree_get.specs.declared.Shown.TheVariants.{End, Leaf, Unshown}
-use Rattle.tree_get.specs.declared.View.{View}
 use Rattle.tree_insert.specs.Outcomes.{InsertOutcome}
 use Rattle.tree_range.specs.Outcomes.{FirstOutcome, GtOutcome, RangeOutcome}
-use Rattle.tree_range.specs.declared.Scan.{Scan}
-use Rattle.tree_range.specs.declared.Scan.TheVariants as scan
+use Rattle.tree_range.specs.declared.Seen.{Seen}
 use Rattle.tree_remove.specs.Outcomes.{RemoveOutcome}
+use Rattle.words.specs.declared.LowKey.{LowKey}
 
 -- a refusal that returns nothing besides has length 0
-abbrev pub or_zero : Option ℕ → ℕ
+abbrev pub or_zero : math.Option ℕ → ℕ
 or_zero none = 0
 or_zero (some n) = n
 
@@ -54,13 +41,13 @@ abbrev pub refusal_told : Refusal → Told
 refusal_told x = record { refusal = number_of x; length = or_zero (length_of x) }
 
 -- accepted is 0, which is no refusal's number
-abbrev pub change_told : Change → Told
-change_told Done = record { refusal = 0; length = 0 }
-change_told (Refused x) = refusal_told x
+abbrev pub change_told : Result (Unit {0}) Refusal → Told
+change_told (Ok u) = record { refusal = 0; length = 0 }
+change_told (Err x) = refusal_told x
 
-abbrev pub length_told : Length → Told
-length_told (Pairs n) = record { refusal = 0; length = n }
-length_told (Unmeasured x) = refusal_told x
+abbrev pub length_told : Result ℕ Refusal → Told
+length_told (Ok n) = record { refusal = 0; length = n }
+length_told (Err x) = refusal_told x
 
 abbrev pub with_header : Told → Header → Reply
 with_header t h = record { refusal = t.refusal; length = t.length; header = h }
@@ -69,19 +56,19 @@ abbrev pub reply_of : Answered → Reply
 reply_of a = with_header (change_told a.answer) a.header
 
 -- contains_key: the length is 1 where the key is held, 0 where not
-abbrev pub contained_told : Contained → Told
-contained_told Yes = record { refusal = 0; length = 1 }
-contained_told No = record { refusal = 0; length = 0 }
-contained_told (Unasked x) = refusal_told x
+abbrev pub contained_told : Result Bool Refusal → Told
+contained_told (Ok true) = record { refusal = 0; length = 1 }
+contained_told (Ok false) = record { refusal = 0; length = 0 }
+contained_told (Err x) = refusal_told x
 
 -- get: found is 1 or 0; where it is 0, the place and the length are too
 abbrev pub no_place : (refusal : ℕ) → Place
 no_place n = record { refusal = n; found = 0; offset = 0; length = 0 }
 
-abbrev pub place_told : Found → Place
-place_told (found.At p n) = record { refusal = 0; found = 1; offset = p.0; length = n }
-place_told found.Nothing = no_place 0
-place_told (found.Refused x) = no_place (number_of x)
+abbrev pub place_told : Result (Option Found) Refusal → Place
+place_told (Ok (Some f)) = record { refusal = 0; found = 1; offset = f.at.0; length = f.length }
+place_told (Ok None) = no_place 0
+place_told (Err x) = no_place (number_of x)
 
 -- leaf_at: found is 1 or 0; where it is 0, the rest is too, and where there is no upper key, its fields are
 abbrev pub no_view : (refusal : ℕ) → Shown
@@ -98,28 +85,36 @@ no_view n =
       pairs = 0;
     }
 
-abbrev pub upper_told : Upper → UpperPart
-upper_told (upper.At k) = record { has = 1; offset = k.offset.0; length = k.length }
-upper_told upper.Nothing = record { has = 0; offset = 0; length = 0 }
-
-abbrev pub with_upper : UpperPart → View → Shown
-with_upper u v =
+abbrev pub upper_told : Option LowKey → looked.Shown → Shown
+upper_told (Some k) v =
     record {
       refusal = 0;
       found = 1;
       low_offset = v.low.offset.0;
       low_length = v.low.length;
-      has_upper = u.has;
-      upper_offset = u.offset;
-      upper_length = u.length;
+      has_upper = 1;
+      upper_offset = k.offset.0;
+      upper_length = k.length;
+      prefix_length = v.prefix_length;
+      pairs = v.pairs;
+    }
+upper_told None v =
+    record {
+      refusal = 0;
+      found = 1;
+      low_offset = v.low.offset.0;
+      low_length = v.low.length;
+      has_upper = 0;
+      upper_offset = 0;
+      upper_length = 0;
       prefix_length = v.prefix_length;
       pairs = v.pairs;
     }
 
-abbrev pub shown_told : looked.Shown → Shown
-shown_told (Leaf v) = with_upper (upper_told v.upper) v
-shown_told End = no_view 0
-shown_told (Unshown x) = no_view (number_of x)
+abbrev pub shown_told : Result (Option looked.Shown) Refusal → Shown
+shown_told (Ok (Some v)) = upper_told v.upper v
+shown_told (Ok None) = no_view 0
+shown_told (Err x) = no_view (number_of x)
 
 -- scan_prefix: the bound kinds' numbers, and how many bytes of the end were written
 abbrev pub bound_told : Bound → ℕ
@@ -133,9 +128,9 @@ span_made s e n = record { refusal = 0; length = 0; start = s; end = e; end_leng
 abbrev pub no_span : Told → Span
 no_span t = record { refusal = t.refusal; length = t.length; start = 0; end = 0; end_length = 0 }
 
-abbrev pub span_told : Prefixed → Span
-span_told (prefixed.Made s) = span_made (bound_told s.range.start) (bound_told s.range.end) s.end
-span_told (prefixed.Refused x) = no_span (refusal_told x)
+abbrev pub span_told : Result prefix.Span Refusal → Span
+span_told (Ok s) = span_made (bound_told s.range.start) (bound_told s.range.end) s.end
+span_told (Err x) = no_span (refusal_told x)
 
 -- the scanning calls: a bound kind's number read, from 2 on open
 abbrev pub bound_read : ℕ → Bound
@@ -147,19 +142,19 @@ bound_read (suc (suc n)) = Open
 abbrev pub no_pair : Told → Scanned
 no_pair t = record { refusal = t.refusal; length = t.length; found = 0; key = 0; offset = 0; value = 0 }
 
-abbrev pub scan_told : Scan → Scanned
-scan_told (scan.Pair x) = record { refusal = 0; length = 0; found = 1; key = x.key; offset = x.place.0; value = x.value }
-scan_told scan.End = no_pair (record { refusal = 0; length = 0 })
-scan_told (scan.Refused x) = no_pair (refusal_told x)
+abbrev pub scan_told : Result (Option Seen) Refusal → Scanned
+scan_told (Ok (Some x)) = record { refusal = 0; length = 0; found = 1; key = x.key; offset = x.place.0; value = x.value }
+scan_told (Ok None) = no_pair (record { refusal = 0; length = 0 })
+scan_told (Err x) = no_pair (refusal_told x)
 
 -- the changing calls: found is 1 where there was an old value, and then the length is its length
 abbrev pub no_old : Told → OldPart
 no_old t = record { refusal = t.refusal; length = t.length; found = 0 }
 
-abbrev pub old_told : Old → OldPart
-old_told (old.Value n) = record { refusal = 0; length = n; found = 1 }
-old_told old.Nothing = no_old (record { refusal = 0; length = 0 })
-old_told (old.Refused x) = no_old (refusal_told x)
+abbrev pub old_told : Result (Option ℕ) Refusal → OldPart
+old_told (Ok (Some n)) = record { refusal = 0; length = n; found = 1 }
+old_told (Ok None) = no_old (record { refusal = 0; length = 0 })
+old_told (Err x) = no_old (refusal_told x)
 
 abbrev pub with_header_old : OldPart → Header → OldReply
 with_header_old t h = record { refusal = t.refusal; length = t.length; found = t.found; header = h }

@@ -2,13 +2,13 @@
 ghost use Rattle.changes.specs.Outcomes.{lent};
 ghost use Rattle.exports.specs.Replies.{ClearReply, InsertReply, RemoveReply, with_header, with_header_old};
 
-use crate::writes::{OldPart, tell_old};
-use crate::{Told, tell_change};
+use crate::Told;
+use crate::writes::OldPart;
 use kernel::{clear, insert, remove};
 use layout::Header;
 
-// A new pair, or a new value for a key that has one, whose old value is written to `out`. Refused as 2, 3, 4, 5, 7 or 8, the header is as
-// it came.
+/// A new pair, or a new value for a key that has one, whose old value is written to `out`. Refused as 2, 3, 4, 5, 7 or 8, the header is as
+/// it came.
 pub fn olybzhan_insert(
     h: &mut Header,
     dir: &mut [u32],
@@ -20,11 +20,11 @@ pub fn olybzhan_insert(
 ) -> OldPart
     ensures { InsertReply h.old key.now value.now (lent dir.old slots.old arena.old out.old) (lent dir.new slots.new arena.new out.new) (with_header_old result h.new) }
 {
-    tell_old(insert(h, dir, slots, arena, key, value, out))
+    OldPart::from(insert(h, dir, slots, arena, key, value, out))
 }
 
-// A key's pair taken out, its value written to `out`. Where the key has none, nothing is changed. Refused as 2, 3 or 5, the header is as it
-// came.
+/// A key's pair taken out, its value written to `out`. Where the key has none, nothing is changed. Refused as 2, 3 or 5, the header is as it
+/// came.
 pub fn olybzhan_remove(
     h: &mut Header,
     dir: &mut [u32],
@@ -35,12 +35,12 @@ pub fn olybzhan_remove(
 ) -> OldPart
     ensures { RemoveReply h.old key.now (lent dir.old slots.old arena.old out.old) (lent dir.new slots.new arena.new out.new) (with_header_old result h.new) }
 {
-    tell_old(remove(h, dir, slots, arena, key, out))
+    OldPart::from(remove(h, dir, slots, arena, key, out))
 }
 
-// An index made fresh again. Refused as 2, the header is as it came.
+/// An index made fresh again. Refused as 2, the header is as it came.
 pub fn olybzhan_clear(h: &mut Header, dir: &mut [u32], slots: &mut [u64], arena: &[u8]) -> Told
     ensures { ClearReply h.old dir.old slots.old arena.now dir.new slots.new (with_header result h.new) }
 {
-    tell_change(clear(h, dir, slots, arena))
+    Told::from(clear(h, dir, slots, arena))
 }

@@ -1,15 +1,31 @@
 // The calls that look up one key, and the one that shows a leaf of the leaf list.
-ghost use Rattle.std.specs.Prelude.{◌≡◌};
-ghost use Rattle.exports.specs.Replies.{contained_told, place_told, no_view, upper_told, with_upper, shown_told, ContainsReply, GetReply, LeafReply};
+ghost use Rattle.exports.specs.Replies.{ContainsReply, GetReply, LeafReply};
 
-use crate::{Told, tell_refusal};
+use crate::Told;
 use layout::Header;
-use leaf::Upper;
-use tree_get::{Contained, Found, View, contains_key, get, leaf_at};
+use model::Refusal;
+use tree_get::{Found, contains_key, get, leaf_at};
 
-// Whether a value was found, 1 or 0, and where it lies in the arena. All but the refusal is 0 where there is none.
+impl From<Result<bool, Refusal>> for Told {
+    ghost use Rattle.std.specs.Prelude.{◌≡◌};
+    ghost use Rattle.exports.specs.Replies.{contained_told};
+
+    ghost from_gives = { λ a r. r ≡ contained_told a };
+
+    fn from(a: Result<bool, Refusal>) -> Told {
+        match a {
+            Ok(held) => Told {
+                refusal: 0,
+                length: usize::from(held),
+            },
+            Err(x) => Told::from(x),
+        }
+    }
+}
+
+/// Whether a value was found, 1 or 0, and where it lies in the arena. All but the refusal is 0 where there is none.
 #[repr(C)]
-#[derive(Clone, Copy)]
+#[derive(Debug, Clone, Copy, PartialEq, Eq, Default)]
 pub struct Place {
     pub refusal: usize,
     pub found: usize,
@@ -17,10 +33,33 @@ pub struct Place {
     pub length: usize,
 }
 
-// Whether there is such a leaf, 1 or 0, where its low key and its upper key lie, its prefix length and its number of pairs. All but the
-// refusal is 0 where there is none, and so are the upper key's three fields where the leaf has none.
+impl From<Result<Option<Found>, Refusal>> for Place {
+    ghost use Rattle.std.specs.Prelude.{◌≡◌};
+    ghost use Rattle.exports.specs.Replies.{place_told};
+
+    ghost from_gives = { λ a r. r ≡ place_told a };
+
+    fn from(a: Result<Option<Found>, Refusal>) -> Place {
+        match a {
+            Ok(Some(found)) => Place {
+                refusal: 0,
+                found: 1,
+                offset: found.at.0,
+                length: found.length,
+            },
+            Ok(None) => Place::default(),
+            Err(x) => Place {
+                refusal: x.number(),
+                ..Place::default()
+            },
+        }
+    }
+}
+
+/// Whether there is such a leaf, 1 or 0, where its low key and its upper key lie, its prefix length and its number of pairs. All but the
+/// refusal is 0 where there is none, and so are the upper key's three fields where the leaf has none.
 #[repr(C)]
-#[derive(Clone, Copy)]
+#[derive(Debug, Clone, Copy, PartialEq, Eq, Default)]
 pub struct Shown {
     pub refusal: usize,
     pub found: usize,
@@ -33,123 +72,52 @@ pub struct Shown {
     pub pairs: usize,
 }
 
-// The upper key's three fields.
-#[derive(Clone, Copy)]
-struct UpperPart {
-    has: usize,
-    offset: usize,
-    length: usize,
-}
+impl From<tree_get::Shown> for Shown {
+    ghost use Rattle.std.specs.Prelude.{◌≡◌};
+    ghost use Rattle.exports.specs.Replies.{upper_told};
 
-fn tell_contained(a: Contained) -> Told
-    ensures { result ≡ contained_told a }
-{
-    match a {
-        Contained::Yes => Told {
-            refusal: 0,
-            length: 1,
-        },
-        Contained::No => Told {
-            refusal: 0,
-            length: 0,
-        },
-        Contained::Unasked(x) => tell_refusal(x),
-    }
-}
+    ghost from_gives = { λ leaf r. r ≡ upper_told leaf.upper leaf };
 
-fn tell_found(a: Found) -> Place
-    ensures { result ≡ place_told a }
-{
-    match a {
-        Found::At(at, n) => Place {
-            refusal: 0,
+    fn from(leaf: tree_get::Shown) -> Shown {
+        let shown = Shown {
             found: 1,
-            offset: at.0,
-            length: n,
-        },
-        Found::Nothing => Place {
-            refusal: 0,
-            found: 0,
-            offset: 0,
-            length: 0,
-        },
-        Found::Refused(x) => {
-            let told = tell_refusal(x);
-            Place {
-                refusal: told.refusal,
-                found: 0,
-                offset: 0,
-                length: 0,
-            }
+            low_offset: leaf.low.offset.0,
+            low_length: leaf.low.length,
+            prefix_length: leaf.prefix_length,
+            pairs: leaf.pairs,
+            ..Shown::default()
+        };
+        match leaf.upper {
+            Some(upper) => Shown {
+                has_upper: 1,
+                upper_offset: upper.offset.0,
+                upper_length: upper.length,
+                ..shown
+            },
+            None => shown,
         }
     }
 }
 
-fn tell_upper(a: Upper) -> UpperPart
-    ensures { result ≡ upper_told a }
-{
-    match a {
-        Upper::At(k) => UpperPart {
-            has: 1,
-            offset: k.offset.0,
-            length: k.length,
-        },
-        Upper::Nothing => UpperPart {
-            has: 0,
-            offset: 0,
-            length: 0,
-        },
-    }
-}
+impl From<Result<Option<tree_get::Shown>, Refusal>> for Shown {
+    ghost use Rattle.std.specs.Prelude.{◌≡◌};
+    ghost use Rattle.exports.specs.Replies.{shown_told};
 
-fn tell_view(v: View) -> Shown
-    ensures { result ≡ with_upper (upper_told v.upper) v }
-{
-    let upper = v.upper;
-    let told = tell_upper(upper);
-    Shown {
-        refusal: 0,
-        found: 1,
-        low_offset: v.low.offset.0,
-        low_length: v.low.length,
-        has_upper: told.has,
-        upper_offset: told.offset,
-        upper_length: told.length,
-        prefix_length: v.prefix_length,
-        pairs: v.pairs,
-    }
-}
+    ghost from_gives = { λ a r. r ≡ shown_told a };
 
-fn tell_none(refusal: usize) -> Shown
-    ensures { result ≡ no_view refusal }
-{
-    Shown {
-        refusal: refusal,
-        found: 0,
-        low_offset: 0,
-        low_length: 0,
-        has_upper: 0,
-        upper_offset: 0,
-        upper_length: 0,
-        prefix_length: 0,
-        pairs: 0,
-    }
-}
-
-fn tell_shown(a: tree_get::Shown) -> Shown
-    ensures { result ≡ shown_told a }
-{
-    match a {
-        tree_get::Shown::Leaf(v) => tell_view(v),
-        tree_get::Shown::End => tell_none(0),
-        tree_get::Shown::Unshown(x) => {
-            let told = tell_refusal(x);
-            tell_none(told.refusal)
+    fn from(a: Result<Option<tree_get::Shown>, Refusal>) -> Shown {
+        match a {
+            Ok(Some(leaf)) => Shown::from(leaf),
+            Ok(None) => Shown::default(),
+            Err(x) => Shown {
+                refusal: x.number(),
+                ..Shown::default()
+            },
         }
     }
 }
 
-// Whether the index holds the key, 1 or 0 in `length`. Refused as 2 or 3.
+/// Whether the index holds the key, 1 or 0 in `length`. Refused as 2 or 3.
 pub fn olybzhan_contains_key_by_value(
     h: Header,
     dir: &[u32],
@@ -159,10 +127,10 @@ pub fn olybzhan_contains_key_by_value(
 ) -> Told
     ensures { ContainsReply h dir.now slots.now arena.now key.now result }
 {
-    tell_contained(contains_key(h, dir, slots, arena, key))
+    Told::from(contains_key(h, dir, slots, arena, key))
 }
 
-// Where the key's value lies in the arena. Refused as 2 or 3.
+/// Where the key's value lies in the arena. Refused as 2 or 3.
 pub fn olybzhan_get_by_value(
     h: Header,
     dir: &[u32],
@@ -172,10 +140,10 @@ pub fn olybzhan_get_by_value(
 ) -> Place
     ensures { GetReply h dir.now slots.now arena.now key.now result }
 {
-    tell_found(get(h, dir, slots, arena, key))
+    Place::from(get(h, dir, slots, arena, key))
 }
 
-// The leaf at a place of the leaf list, counted in key order from 0. Refused as 2.
+/// The leaf at a place of the leaf list, counted in key order from 0. Refused as 2.
 pub fn olybzhan_leaf_at_by_value(
     h: Header,
     dir: &[u32],
@@ -185,5 +153,5 @@ pub fn olybzhan_leaf_at_by_value(
 ) -> Shown
     ensures { LeafReply h dir.now slots.now arena.now place result }
 {
-    tell_shown(leaf_at(h, dir, slots, arena, place))
+    Shown::from(leaf_at(h, dir, slots, arena, place))
 }

@@ -1,25 +1,13 @@
 // The scanning calls, and the range of a prefix.
 ghost use Rattle.std.specs.Prelude.{◌≡◌};
-ghost use Rattle.exports.specs.Replies.{FirstReply, GtReply, PrefixReply, RangeReply, bound_read, bound_told, scan_told, span_told};
+ghost use Rattle.exports.specs.Replies.{FirstReply, GtReply, PrefixReply, RangeReply, bound_read, bound_told};
 
-use crate::tell_refusal;
 use layout::Header;
-use model::{Bound, Range};
-use prefixes::{Prefixed, scan_prefix};
-use tree_range::{Scan, first, first_in_range, get_gt};
+use model::{Bound, Range, Refusal};
+use prefixes::scan_prefix;
+use tree_range::{Seen, first, first_in_range, get_gt};
 
-// The kinds of a range's bounds, 0 included, 1 excluded, 2 open, and how many bytes of its end were written. Refused, `length` is the one
-// that the refusal also returns, and the rest is 0.
-#[repr(C)]
-#[derive(Clone, Copy)]
-pub struct Span {
-    pub refusal: usize,
-    pub length: usize,
-    pub start: usize,
-    pub end: usize,
-    pub end_length: usize,
-}
-
+// (No `From` between bounds and numbers: neither type is this crate's.)
 fn tell_bound(b: Bound) -> usize
     ensures { result ≡ bound_told b }
 {
@@ -28,55 +16,6 @@ fn tell_bound(b: Bound) -> usize
         Bound::Excluded => 1,
         Bound::Open => 2,
     }
-}
-
-fn tell_prefixed(a: Prefixed) -> Span
-    ensures { result ≡ span_told a }
-{
-    match a {
-        Prefixed::Made(s) => {
-            let range = s.range;
-            let start = range.start;
-            let end = range.end;
-            Span {
-                refusal: 0,
-                length: 0,
-                start: tell_bound(start),
-                end: tell_bound(end),
-                end_length: s.end,
-            }
-        }
-        Prefixed::Refused(x) => {
-            let told = tell_refusal(x);
-            Span {
-                refusal: told.refusal,
-                length: told.length,
-                start: 0,
-                end: 0,
-                end_length: 0,
-            }
-        }
-    }
-}
-
-// The range of a prefix, its end written to `out`. Refused as 3 or 5.
-pub fn olybzhan_scan_prefix(prefix: &[u8], out: &mut [u8]) -> Span
-    ensures { PrefixReply prefix.now out.old out.new result }
-{
-    tell_prefixed(scan_prefix(prefix, out))
-}
-
-// A pair found: the length of its key, which is in the output, and where its value lies in the arena. Refused, `length` is the one that
-// the refusal also returns. Refused or at the end of the range, the rest is 0.
-#[repr(C)]
-#[derive(Clone, Copy)]
-pub struct Scanned {
-    pub refusal: usize,
-    pub length: usize,
-    pub found: usize,
-    pub key: usize,
-    pub offset: usize,
-    pub value: usize,
 }
 
 // A bound's kind by its number; from 2 on it is open.
@@ -90,41 +29,89 @@ fn read_bound(n: usize) -> Bound
     }
 }
 
-fn tell_scan(a: Scan) -> Scanned
-    ensures { result ≡ scan_told a }
-{
-    match a {
-        Scan::Pair(x) => Scanned {
-            refusal: 0,
-            length: 0,
-            found: 1,
-            key: x.key,
-            offset: x.place.0,
-            value: x.value,
-        },
-        Scan::End => Scanned {
-            refusal: 0,
-            length: 0,
-            found: 0,
-            key: 0,
-            offset: 0,
-            value: 0,
-        },
-        Scan::Refused(x) => {
-            let told = tell_refusal(x);
-            Scanned {
-                refusal: told.refusal,
-                length: told.length,
-                found: 0,
-                key: 0,
-                offset: 0,
-                value: 0,
-            }
+/// The kinds of a range's bounds, 0 included, 1 excluded, 2 open, and how many bytes of its end were written. Refused, `length` is the one
+/// that the refusal also returns, and the rest is 0.
+#[repr(C)]
+#[derive(Debug, Clone, Copy, PartialEq, Eq, Default)]
+pub struct Span {
+    pub refusal: usize,
+    pub length: usize,
+    pub start: usize,
+    pub end: usize,
+    pub end_length: usize,
+}
+
+impl From<Result<prefixes::Span, Refusal>> for Span {
+    ghost use Rattle.std.specs.Prelude.{◌≡◌};
+    ghost use Rattle.exports.specs.Replies.{span_told};
+
+    ghost from_gives = { λ a r. r ≡ span_told a };
+
+    fn from(a: Result<prefixes::Span, Refusal>) -> Span {
+        match a {
+            Ok(span) => Span {
+                refusal: 0,
+                length: 0,
+                start: tell_bound(span.range.start),
+                end: tell_bound(span.range.end),
+                end_length: span.end,
+            },
+            Err(x) => Span {
+                refusal: x.number(),
+                length: x.length().unwrap_or(0),
+                ..Span::default()
+            },
         }
     }
 }
 
-// The first pair in a range, its bound kinds by their numbers. Refused as 2, 3, 6 or 5.
+/// A pair found: the length of its key, which is in the output, and where its value lies in the arena. Refused, `length` is the one that
+/// the refusal also returns. Refused or at the end of the range, the rest is 0.
+#[repr(C)]
+#[derive(Debug, Clone, Copy, PartialEq, Eq, Default)]
+pub struct Scanned {
+    pub refusal: usize,
+    pub length: usize,
+    pub found: usize,
+    pub key: usize,
+    pub offset: usize,
+    pub value: usize,
+}
+
+impl From<Result<Option<Seen>, Refusal>> for Scanned {
+    ghost use Rattle.std.specs.Prelude.{◌≡◌};
+    ghost use Rattle.exports.specs.Replies.{scan_told};
+
+    ghost from_gives = { λ a r. r ≡ scan_told a };
+
+    fn from(a: Result<Option<Seen>, Refusal>) -> Scanned {
+        match a {
+            Ok(Some(pair)) => Scanned {
+                refusal: 0,
+                length: 0,
+                found: 1,
+                key: pair.key,
+                offset: pair.place.0,
+                value: pair.value,
+            },
+            Ok(None) => Scanned::default(),
+            Err(x) => Scanned {
+                refusal: x.number(),
+                length: x.length().unwrap_or(0),
+                ..Scanned::default()
+            },
+        }
+    }
+}
+
+/// The range of a prefix, its end written to `out`. Refused as 3 or 5.
+pub fn olybzhan_scan_prefix(prefix: &[u8], out: &mut [u8]) -> Span
+    ensures { PrefixReply prefix.now out.old out.new result }
+{
+    Span::from(scan_prefix(prefix, out))
+}
+
+/// The first pair in a range, its bound kinds by their numbers. Refused as 2, 3, 6 or 5.
 pub fn olybzhan_first_in_range_by_value(
     h: Header,
     dir: &[u32],
@@ -142,10 +129,10 @@ pub fn olybzhan_first_in_range_by_value(
         start: read_bound(from),
         end: read_bound(to),
     };
-    tell_scan(first_in_range(h, dir, slots, arena, range, start, end, out))
+    Scanned::from(first_in_range(h, dir, slots, arena, range, start, end, out))
 }
 
-// The first pair above a key. Refused as 2, 3 or 5.
+/// The first pair above a key. Refused as 2, 3 or 5.
 pub fn olybzhan_get_gt_by_value(
     h: Header,
     dir: &[u32],
@@ -156,10 +143,10 @@ pub fn olybzhan_get_gt_by_value(
 ) -> Scanned
     ensures { GtReply h dir.now slots.now arena.now key.now out.old out.new result }
 {
-    tell_scan(get_gt(h, dir, slots, arena, key, out))
+    Scanned::from(get_gt(h, dir, slots, arena, key, out))
 }
 
-// The first pair of all. Refused as 2 or 5.
+/// The first pair of all. Refused as 2 or 5.
 pub fn olybzhan_first_by_value(
     h: Header,
     dir: &[u32],
@@ -169,5 +156,5 @@ pub fn olybzhan_first_by_value(
 ) -> Scanned
     ensures { FirstReply h dir.now slots.now arena.now out.old out.new result }
 {
-    tell_scan(first(h, dir, slots, arena, out))
+    Scanned::from(first(h, dir, slots, arena, out))
 }

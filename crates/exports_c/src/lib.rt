@@ -1,11 +1,12 @@
-// The calls for C and Rust, under their C names: each is the function of that name of the crate exports.
+// The calls for C and Rust, under their C names: each is the function of that name of the crate exports. (Each once more, with its clauses,
+// since a C function stands in a static library, and no crate can build on one.)
 #![tactic(auto)]
 
 ghost use Rattle.std.specs.Prelude.{◌≡◌};
 ghost use Rattle.lists.specs.Exact.{Exact};
 ghost use Rattle.layout.specs.Lays.{W};
 ghost use Rattle.changes.specs.Outcomes.{lent};
-ghost use Rattle.exports.specs.Replies.{ClearReply, ContainsReply, CreateReply, FirstReply, GetReply, GtReply, InsertReply, LeafReply, LenReply, PrefixReply, RangeReply, RemoveReply, with_header, with_header_old, with_upper};
+ghost use Rattle.exports.specs.Replies.{ClearReply, ContainsReply, CreateReply, FirstReply, GetReply, GtReply, InsertReply, LeafReply, LenReply, PrefixReply, RangeReply, RemoveReply, with_header, with_header_old};
 
 use exports::reads::{Place, Shown};
 use exports::scans::{Scanned, Span};

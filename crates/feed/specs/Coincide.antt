@@ -1,8 +1,7 @@
 -- Any two outcomes of `gather` on one input coincide.
 -- Assumes nothing.
-use Rattle.std.specs.Prelude.{ℕ, ◌-◌, ◌<◌, List, ◌≡◌, ◌⊎◌, length}
-use Rattle.std.proofs.Common.{sym, subst, ◌∙◌, eq-or-lt_of_le, arith, inl, inr, take-append-drop}
-use Rattle.lists.specs.Exact.{Exact, exact_same}
+use Rattle.std.specs.Prelude.{ℕ, ◌-◌, ◌+◌, ◌<◌, Some, List, ◌≡◌, ◌⊎◌, length}
+use Rattle.std.proofs.Common.{ap, sym, subst, ◌∙◌, eq-or-lt_of_le, arith, inl, inr, take-append-drop}
 use Rattle.lists.specs.Part.{part}
 use Rattle.feed.specs.Feeds.{Ends, Gathers, Holds}
 use Rattle.feed.specs.declared.Gathered.{Gathered}
@@ -28,20 +27,13 @@ pub record Same (a : List ℕ) (g : Gathered) (b : List ℕ) (k : Gathered) : Ty
   pub buffer : a ≡ b
   pub next_is : g.next ≡ k.next
   pub held_is : g.held ≡ k.held
-  pub whole_is : g.whole ≡ k.whole
 
 pub gather_coincides : {piece line a b : List ℕ} {from held : ℕ} {g k : Gathered} → Gathers piece from line held g a → Gathers piece from line held k b → Same a g b k
 gather_coincides {piece} {line} {a} {b} {from} {held} {g} {k} x y =
     let e : y.end ≡ x.end = ends_one y.ends x.ends in
     let h : Holds line held (part piece from (x.end - from)) b k.held = subst (λ (i : ℕ). Holds line held (part piece from (i - from)) b k.held) e y.holds in
-    let w : Exact k.whole (x.end < length piece) = subst (λ (i : ℕ). Exact k.whole (i < length piece)) e y.ended in
-    record {
-      buffer = holds_one x.holds h;
-      next_is = go (eq-or-lt_of_le x.ends.within);
-      held_is = holds_count x.holds h;
-      whole_is = exact_same g.whole k.whole x.ended w;
-    }
+    record { buffer = holds_one x.holds h; next_is = go e (eq-or-lt_of_le x.ends.within); held_is = holds_count x.holds h }
   where
-    go : (x.end ≡ length piece) ⊎ (x.end < length piece) → g.next ≡ k.next
-    go (inl l) = omega (arith, ends_one y.ends x.ends, x.last l, y.last (omega (arith, ends_one y.ends x.ends)))
-    go (inr l) = omega (arith, ends_one y.ends x.ends, x.behind l, y.behind (omega (arith, ends_one y.ends x.ends)))
+    go : y.end ≡ x.end → (x.end ≡ length piece) ⊎ (x.end < length piece) → g.next ≡ k.next
+    go e (inl l) = x.last l ∙ sym (y.last (e ∙ l))
+    go e (inr l) = x.behind l ∙ ap (λ (i : ℕ). Some (i + 1)) (sym e) ∙ sym (y.behind (omega arith))

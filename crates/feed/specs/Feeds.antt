@@ -1,6 +1,6 @@
 -- How pieces of input become lines: a line ends at a newline (10), and a lent buffer holds as many of its bytes as it has room for.
-use Rattle.std.specs.Prelude.{ℕ, ◌+◌, ◌-◌, ◌≤◌, ◌<◌, List, ◌++◌, ◌≡◌, drop, get_or, length, take}
-use Rattle.lists.specs.Exact.{Exact}
+use Rattle.std.specs.Prelude.{ℕ, ◌+◌, ◌-◌, ◌≤◌, ◌<◌, None, Some, List, ◌++◌, ◌≡◌, drop, get_or, length, take}
+use Rattle.std.proofs.Common.{Option}
 use Rattle.lists.specs.Part.{part}
 use Rattle.feed.specs.declared.Gathered.{Gathered}
 
@@ -10,6 +10,11 @@ pub record Ends (piece : List ℕ) (from e : ℕ) : Type 0 where
   pub within : e ≤ length piece
   pub clear : (i : ℕ) → from ≤ i → i < e → get_or piece i 0 ≡ 10 → ⊥
   pub newline : e < length piece → get_or piece e 0 ≡ 10
+
+-- the place of the first newline, or that there is none
+abbrev pub FirstNewline : List ℕ → Option ℕ → Type 0
+FirstNewline text (Some n) = (n < length text) × (get_or text n 0 ≡ 10) × ((i : ℕ) → i < n → get_or text i 0 ≡ 10 → ⊥)
+FirstNewline text None = (i : ℕ) → i < length text → get_or text i 0 ≡ 10 → ⊥
 
 -- the buffer has the first bytes of a line so far, as many as it has room for
 pub record Keeps (line : List ℕ) (held : ℕ) (bytes : List ℕ) : Type 0 where
@@ -23,11 +28,10 @@ pub record Holds (line : List ℕ) (held : ℕ) (text line' : List ℕ) (r : ℕ
   pub rest : drop r line' ≡ drop r line
   pub long : length line' ≡ length line
 
--- the piece was taken up to its end, or behind its first newline
+-- the piece was taken behind its first newline, or up to its end
 pub record Gathers (piece : List ℕ) (from : ℕ) (line : List ℕ) (held : ℕ) (g : Gathered) (line' : List ℕ) : Type 0 where
   pub end : ℕ
   pub ends : Ends piece from end
   pub holds : Holds line held (part piece from (end - from)) line' g.held
-  pub ended : Exact g.whole (end < length piece)
-  pub behind : end < length piece → g.next ≡ end + 1
-  pub last : end ≡ length piece → g.next ≡ end
+  pub behind : end < length piece → g.next ≡ Some (end + 1)
+  pub last : end ≡ length piece → g.next ≡ None

@@ -2,31 +2,21 @@
 #![tactic(auto)]
 
 ghost use Rattle.std.specs.Prelude.{◌≤◌, length};
-ghost use Rattle.feed.specs.Feeds.{Ends, Gathers, Holds};
+ghost use Rattle.feed.specs.Feeds.{FirstNewline, Gathers, Holds};
 
-use moves::copy_bytes;
-
-// How far a piece was taken, how many bytes of the line the buffer has, and whether the line ended there.
-#[derive(Clone, Copy)]
+/// What was gathered from a piece of input.
+#[derive(Clone, Copy, Debug, PartialEq, Eq)]
 pub struct Gathered {
-    pub next: usize,
+    /// How many bytes of the line the buffer has.
     pub held: usize,
-    pub whole: bool,
+    /// The place in the piece behind the line's newline; `None` if the piece ended first.
+    pub next: Option<usize>,
 }
 
-// The place of the first newline from `from` on, or the length.
-fn line_end(piece: &[u8], from: usize) -> usize
-    requires { from ≤ length piece.now }
-    ensures { Ends piece.now from result }
+fn line_end(piece: &[u8]) -> Option<usize>
+    ensures { FirstNewline piece.now result }
 {
-    let mut i = from;
-    while i < piece.len() {
-        if piece[i] == b'\n' {
-            return i;
-        }
-        i += 1;
-    }
-    i
+    piece.iter().position(|&b| b == b'\n')
 }
 
 // More bytes of the line behind those that are held; what there is no room for is dropped.
@@ -34,32 +24,25 @@ fn hold(text: &[u8], line: &mut [u8], held: usize) -> usize
     requires { held ≤ length line.old }
     ensures { Holds line.old held text.now line.new result }
 {
-    let room = line.len() - held;
-    if text.len() <= room {
-        copy_bytes(line, held, text);
-        return held + text.len();
-    }
-    copy_bytes(line, held, &text[0..room]);
-    line.len()
+    let end = held + text.len().min(line.len() - held);
+    line[held..end].copy_from_slice(&text[..end - held]);
+    end
 }
 
-// The piece from `from` on, up to the newline or the end. The newline is passed over.
+/// The piece from `from` on, up to the newline or the end. The newline is passed over.
 pub fn gather(piece: &[u8], from: usize, line: &mut [u8], held: usize) -> Gathered
     requires { (from ≤ length piece.now) × (held ≤ length line.old) }
     ensures { Gathers piece.now from line.old held result line.new }
 {
-    let e = line_end(piece, from);
-    let now = hold(&piece[from..e], line, held);
-    if e == piece.len() {
-        return Gathered {
-            next: e,
-            held: now,
-            whole: false,
-        };
-    }
-    Gathered {
-        next: e + 1,
-        held: now,
-        whole: true,
+    let rest = &piece[from..];
+    match line_end(rest) {
+        Some(n) => Gathered {
+            held: hold(&rest[..n], line, held),
+            next: Some(from + n + 1),
+        },
+        None => Gathered {
+            held: hold(rest, line, held),
+            next: None,
+        },
     }
 }

@@ -1,11 +1,10 @@
 -- Histories there are: an index in a pool of two leaves and three arena bytes, made by creation, and 61 put in it with the value 01. The sizes are those
 -- of demand 3 for P = K = V = 1, to the byte.
 -- Assumes nothing.
-use Rattle.std.specs.Prelude.{◌≤◌, [], ◌∷◌, ◌≡◌, refl, length}
+use Rattle.std.specs.Prelude.{◌≤◌, [], ◌∷◌, ◌≡◌, refl, length, None, Ok}
 use Rattle.std.proofs.Common.{subst, arith}
 use Rattle.changes.specs.Outcomes.{Lent, lent}
 use Rattle.changes.specs.declared.Changed.{Changed}
-use Rattle.changes.specs.declared.Old.TheVariants.{Nothing}
 use Rattle.history.specs.Demand3.{sized_accepted}
 use Rattle.history.specs.Histories.{History, Within, begin, insert, map_of, on, state}
 use Rattle.layout.specs.Buffers.{low_at, low_word, pair_at, slot_words, suffix_at, value_at}
@@ -21,7 +20,6 @@ use Rattle.model.specs.Map.{pair}
 use Rattle.model.specs.Map as map
 use Rattle.model.specs.Rules.{free_from, fresh, insert_here, insert_rule, lowest_free, split_if_full, used}
 use Rattle.order.specs.Bytes.{Bytes}
-use Rattle.tree_create.specs.declared.Change.TheVariants.{Done}
 use Rattle.tree_insert.specs.Outcomes.{InsertBy, InsertOutcome}
 
 blank : Blank 3 (0 ∷ 0 ∷ []) (0 ∷ 0 ∷ 0 ∷ 0 ∷ 0 ∷ 0 ∷ []) (0 ∷ 0 ∷ 0 ∷ [])
@@ -36,7 +34,7 @@ blank =
 begun : History (state (header 3 1 0 0) (0 ∷ 0 ∷ []) (0 ∷ 0 ∷ 0 ∷ 0 ∷ 0 ∷ 0 ∷ []) (0 ∷ 0 ∷ 0 ∷ []))
 unfolding put fanout_least fanout_limit pool_least pool_limit arena_limit
 begun =
-    begin 3 (0 ∷ 0 ∷ []) (0 ∷ 0 ∷ 0 ∷ 0 ∷ 0 ∷ 0 ∷ []) (0 ∷ 0 ∷ 0 ∷ []) (0 ∷ 0 ∷ []) (0 ∷ 0 ∷ 0 ∷ 0 ∷ 0 ∷ 0 ∷ []) (record { header = header 3 1 0 0; answer = Done })
+    begin 3 (0 ∷ 0 ∷ []) (0 ∷ 0 ∷ 0 ∷ 0 ∷ 0 ∷ 0 ∷ []) (0 ∷ 0 ∷ 0 ∷ []) (0 ∷ 0 ∷ []) (0 ∷ 0 ∷ 0 ∷ 0 ∷ 0 ∷ 0 ∷ []) (record { header = header 3 1 0 0; answer = Ok tt })
     (record { answer_is = refl; code_is = refl; fresh = record { header_is = refl; dir_is = refl; slots_are = refl }; holds = blank_holds blank }) refl
 
 -- the insert leaves one pair count, one slot word and the pair's two bytes
@@ -61,7 +59,7 @@ abbrev after : Lent
 after = lent (1 ∷ 0 ∷ []) (0x1000001 ∷ 0 ∷ 0 ∷ 0 ∷ 0 ∷ 0 ∷ []) (0x61 ∷ 0x01 ∷ 0 ∷ []) (0 ∷ [])
 
 abbrev answer : Changed
-answer = record { header = header 3 1 1 2; old = Nothing }
+answer = record { header = header 3 1 1 2; old = Ok None }
 
 answered : InsertBy (header 3 1 0 0) (0x61 ∷ []) (0x01 ∷ []) before answer after fresh
 unfolding key_limit value_limit map.lookup map.put charge weight insert_rule lowest_free free_from used at_owner owned insert_here split_if_full put
@@ -95,6 +93,6 @@ example_within = ((omega arith, omega arith), tt)
 -- the sizing speaks of it: of an insert into the fresh index, key and value of a byte at most and an output of a byte at least, no outcome that the
 -- contract allows is a refusal; `inserts` is such an outcome
 pub example_sized : (k v out : Bytes) (r : Changed) (l : Lent) → length k ≤ 1 → length v ≤ 1 → 1 ≤ length out
-    → InsertOutcome (header 3 1 0 0) k v (lent (0 ∷ 0 ∷ []) (0 ∷ 0 ∷ 0 ∷ 0 ∷ 0 ∷ 0 ∷ []) (0 ∷ 0 ∷ 0 ∷ []) out) r l → r.old ≡ Nothing
+    → InsertOutcome (header 3 1 0 0) k v (lent (0 ∷ 0 ∷ []) (0 ∷ 0 ∷ 0 ∷ 0 ∷ 0 ∷ 0 ∷ []) (0 ∷ 0 ∷ 0 ∷ []) out) r l → r.old ≡ Ok None
 unfolding map.put map.lookup begun key_limit value_limit
 example_sized k v out r l hk hv ho o = sized_accepted begun 1 1 1 tt (omega arith) (omega arith) k v out r l hk hv (omega arith) o (omega arith) (omega arith) ho

@@ -1,13 +1,11 @@
 -- What calls keep: from call to call the three buffers have the lengths that the history began with, and the index its fanout, unless a creation
 -- sets another; a call that reads or is refused, and a remove that answers none, leave header and buffers as they were.
 -- Assumes nothing.
-use Rattle.std.specs.Prelude.{ℕ, ◌*◌, Bool, false, not, true, List, [], ◌∷◌, ◌≡◌, refl, length}
+use Rattle.std.specs.Prelude.{ℕ, ◌*◌, Bool, false, not, true, List, [], ◌∷◌, ◌≡◌, refl, length, Err, None, Ok, Some}
 use Rattle.std.proofs.Math.Option.{none}
-use Rattle.std.proofs.Common.{◌∙◌, ap, subst, sym, arith}
+use Rattle.std.proofs.Common.{Option, Result, ◌∙◌, ap, subst, sym, arith}
 use Rattle.changes.specs.Outcomes.{ChangedBy, Lent}
 use Rattle.changes.specs.declared.Changed.{Changed}
-use Rattle.changes.specs.declared.Old.{Old}
-use Rattle.changes.specs.declared.Old.TheVariants.{Nothing, Refused, Value}
 use Rattle.history.specs.Answers.{answers}
 use Rattle.history.specs.Histories.{Call, History, Idle, NoValue, State, begin, clear, create, found, handed, if_not_done, if_refused, insert, lending, made_with, map_of, measured, measures_after, measures_of, on, read, remove, state}
 use Rattle.history.specs.Stands.{stands, state_path}
@@ -25,12 +23,11 @@ use Rattle.model.specs.Limits.{Sizes}
 use Rattle.model.specs.Map.{lookup}
 use Rattle.model.specs.PassedLaws.{passed_if}
 use Rattle.model.specs.Rules.{fresh}
+use Rattle.model.specs.declared.Refusal.{Refusal}
 use Rattle.model.specs.declared.Refusal.TheVariants.{Shape}
 use Rattle.order.specs.Bytes.{Bytes}
 use Rattle.tree_create.specs.Outcomes.{FreshBy, Freshened}
 use Rattle.tree_create.specs.declared.Answered.{Answered}
-use Rattle.tree_create.specs.declared.Change.{Change}
-use Rattle.tree_create.specs.declared.Change.TheVariants.{Done}
 use Rattle.tree_insert.specs.Outcomes.{InsertOutcome}
 use Rattle.tree_remove.specs.Outcomes.{RemoveOutcome}
 
@@ -68,14 +65,14 @@ created_sizes fanout dir slots arena e =
     (meets_sizes_lem fanout (length dir) (length slots) (length arena)).sound (not_false b (passed_if (not b) Shape (accepted fresh) e).0)
 
 begun_measures : (fanout : ℕ) (dir slots arena now_dir now_slots : List ℕ) (r : Answered) (a : Answer (List Node)) → create_answer fanout (length dir) (length slots) (length arena) ≡ a
-    → FreshBy a fanout (header 0 0 0 0) dir slots arena now_dir now_slots r → r.answer ≡ Done
+    → FreshBy a fanout (header 0 0 0 0) dir slots arena now_dir now_slots r → r.answer ≡ Ok tt
     → measures_of (state r.header now_dir now_slots arena) ≡ measured fanout dir slots arena
 begun_measures fanout dir slots arena now_dir now_slots r (refused y) e b d =
-    absurd (let z : ◌≡◌ {A = ℕ} 0 1 = ap (λ (c : Change). if_not_done c 0 1) (sym b.answer_is ∙ d) in omega (arith, z))
+    cc (b.answer_is, d)
 begun_measures fanout dir slots arena now_dir now_slots r (accepted ms) e b d = fresh_measures (created_sizes fanout dir slots arena e) b
 
 module _ (s : State) (fanout : ℕ) (dir slots : List ℕ) (r : Answered) where
-  abbrev Left : Change → Type 0
+  abbrev Left : Result (Unit {0}) Refusal → Type 0
   Left a =
       measures_of (state (if_not_done a s.header r.header) dir slots s.arena)
       ≡ if_not_done a (measures_of s) (measured fanout s.dir s.slots s.arena)
@@ -86,7 +83,7 @@ module _ (s : State) (fanout : ℕ) (dir slots : List ℕ) (r : Answered) where
   create_measures (accepted ms) e b = subst Left (sym b.answer_is) (fresh_measures (created_sizes fanout s.dir s.slots s.arena e) b)
 
   -- refused, it leaves the buffers, and the caller its header
-  abbrev Idles : Change → Type 0
+  abbrev Idles : Result (Unit {0}) Refusal → Type 0
   Idles a = if_not_done a (Unit {0}) ⊥ → state (if_not_done a s.header r.header) dir slots s.arena ≡ s
 
   create_same : (a : Answer (List Node)) → FreshBy a fanout (header 0 0 0 0) s.dir s.slots s.arena dir slots r → Idles r.answer
@@ -114,21 +111,20 @@ module _ {s : State} (h : History s) where
   left_same g after out p =
       state_path (state g after.dir after.slots after.arena) s p.0 (ap (λ (l : Lent). l.dir) p.1) (ap (λ (l : Lent). l.slots) p.1) (ap (λ (l : Lent). l.arena) p.1)
 
-  insert_same : (k v out : Bytes) (g : Header) (a : Old) (after : Lent) → InsertOutcome s.header k v (lending s out) (changed g a) after → if_refused a (Unit {0}) ⊥
+  insert_same : (k v out : Bytes) (g : Header) (a : Result (Option ℕ) Refusal) (after : Lent) → InsertOutcome s.header k v (lending s out) (changed g a) after → if_refused a (Unit {0}) ⊥
       → state g after.dir after.slots after.arena ≡ s
-  insert_same k v out g (Refused x) after o i = left_same g after out (insert_refused s.header k v (lending s out) x o)
-  insert_same k v out g Nothing after o i = absurd i
-  insert_same k v out g (Value n) after o i = absurd i
+  insert_same k v out g (Err x) after o i = left_same g after out (insert_refused s.header k v (lending s out) x o)
+  insert_same k v out g (Ok u) after o i = absurd i
 
   absent : (k : Bytes) → lookup k (map_of h) ≡ none → lookup k (pairs_of index.nodes) ≡ none
   absent k e = ap (λ (l : List Node). lookup k (pairs_of l)) (stands h).leaves_are ∙ ap (lookup k) (stands h).pairs_are ∙ e
 
-  remove_same : (k out : Bytes) (g : Header) (a : Old) (after : Lent) → RemoveOutcome s.header k (lending s out) (changed g a) after → NoValue a
+  remove_same : (k out : Bytes) (g : Header) (a : Result (Option ℕ) Refusal) (after : Lent) → RemoveOutcome s.header k (lending s out) (changed g a) after → NoValue a
       → state g after.dir after.slots after.arena ≡ s
-  remove_same k out g (Refused x) after o i = left_same g after out (remove_refused s.header k (lending s out) x o)
-  remove_same k out g Nothing after o i =
-      left_same g after out (absent_kept s.header k (lending s out) index (absent k (answers h (remove k out (changed g Nothing) after o)).0) o)
-  remove_same k out g (Value n) after o i = absurd i
+  remove_same k out g (Err x) after o i = left_same g after out (remove_refused s.header k (lending s out) x o)
+  remove_same k out g (Ok None) after o i =
+      left_same g after out (absent_kept s.header k (lending s out) index (absent k (answers h (remove k out (changed g (Ok None)) after o)).0) o)
+  remove_same k out g (Ok (Some n)) after o i = absurd i
 
   -- the lengths of the three buffers and the fanout, from call to call
   pub call_kept : {t : State} (c : Call s t) → measures_of t ≡ measures_after c (measures_of s)
@@ -143,7 +139,7 @@ module _ {s : State} (h : History s) where
   idle_kept (read c) i = refl
   idle_kept (insert k v out r after o) i = insert_same k v out r.header r.old after o i
   idle_kept (remove k out r after o) i = remove_same k out r.header r.old after o i
-  idle_kept (clear dir slots r o) i = absurd (subst (λ (a : Change). if_not_done a (Unit {0}) ⊥) (o.held index).answer_is i)
+  idle_kept (clear dir slots r o) i = absurd (subst (λ (a : Result (Unit {0}) Refusal). if_not_done a (Unit {0}) ⊥) (o.held index).answer_is i)
   idle_kept (create fanout dir slots r o) i = create_same s fanout dir slots r (creating fanout) o i
 
 -- so after any history they are what it began with, the fanout as the last accepted creation set it

@@ -1,8 +1,9 @@
 -- The answers of a history are the ordered map's: each call is answered as the map beside the history says.
 -- Assumes nothing.
-use Rattle.std.specs.Prelude.{◌≤◌, ℕ, Bool, false, not, true, List, [], ◌∷◌, ◌≡◌, refl, drop, length, take}
-use Rattle.std.proofs.Math.Option.{Option, none, some}
-use Rattle.std.proofs.Common.{◌∙◌, ap, subst, sym, arith, le-ltb, ltb-false, ltb-true}
+use Rattle.std.specs.Prelude.{◌≤◌, ℕ, Bool, false, not, true, List, [], ◌∷◌, ◌≡◌, refl, drop, length, take, Ok, Err}
+use Rattle.std.proofs.Math.Option.{none, some}
+use Rattle.std.proofs.Math.Option as math
+use Rattle.std.proofs.Common.{◌∙◌, ap, subst, sym, arith, le-ltb, ltb-false, ltb-true, Option, Result}
 use Rattle.changes.specs.Outcomes.{ChangedBy, Kept, Lent, old_bytes, old_told}
 use Rattle.changes.specs.Outcomes as changes
 use Rattle.changes.specs.declared.Changed.{Changed}
@@ -14,7 +15,7 @@ use Rattle.layout.specs.Places.{place_of}
 use Rattle.lists.specs.All.{All}
 use Rattle.lists.proofs.PartLaws.{drop-put_after, length-put, part-put, put-nil}
 use Rattle.lists.specs.Part.{put}
-use Rattle.model.specs.Answers.{Gives, accepted, answer_code, beyond, contains_answer, everything, get_answer, inverted, is_some, key_of, key_written, leaf_answer, len_answer, long_bound, long_key, long_value, meets_sizes, no_leaf, no_room, range_answer, range_found, refuse_if, short, size_of}
+use Rattle.model.specs.Answers.{Gives, accepted, answer_code, beyond, contains_answer, everything, get_answer, inverted, is_some, key_of, key_written, len_answer, long_bound, long_key, long_value, meets_sizes, no_leaf, no_room, range_answer, range_found, refuse_if, result_code, short, size_of, told}
 use Rattle.model.specs.Good.{Bounds, Tiled, Within, limits}
 use Rattle.model.specs.Leaves.{Node, Under, pairs_of}
 use Rattle.model.specs.Limits.{key_limit, value_limit}
@@ -31,34 +32,30 @@ use Rattle.model.specs.declared.Refusal.TheVariants.{InvertedRange, LongKey, Lon
 use Rattle.order.specs.Bytes.{Bytes, ◌≺◌}
 use Rattle.order.specs.OrderLaws.{after, before, cmp_after, cmp_before, cmp_equal, equal, tri}
 use Rattle.route.specs.Lookups.{Lies, value_lies}
-use Rattle.tree_create.specs.Outcomes.{FreshBy, LenOutcome, len_told, length_code}
+use Rattle.tree_create.specs.Outcomes.{FreshBy, LenOutcome}
 use Rattle.tree_create.specs.declared.Answered.{Answered}
-use Rattle.tree_create.specs.declared.Length.{Length}
-use Rattle.tree_get.specs.Outcomes.{ContainsOutcome, GetOutcome, Shows, ValueOutcome, contained_code, contained_told, found_code, found_told, value_told}
-use Rattle.tree_get.specs.declared.Contained.{Contained}
+use Rattle.tree_get.specs.Outcomes.{ContainsOutcome, GetOutcome, ValueOutcome, found, value_told}
+use Rattle.tree_get.specs.Outcomes as reads
 use Rattle.tree_get.specs.declared.Found.{Found}
 use Rattle.prefixes.specs.End.{end_bytes}
 use Rattle.prefixes.specs.Outcome.{PrefixBy, PrefixOutcome}
 use Rattle.prefixes.specs.RangeLaws.{end_above, end_not_longer, made_exact}
-use Rattle.prefixes.specs.declared.Prefixed.{Prefixed}
-use Rattle.prefixes.specs.declared.Prefixed.TheVariants.{Made}
-use Rattle.prefixes.specs.declared.Prefixed.TheVariants as prefixed
 use Rattle.prefixes.specs.declared.Span.{Span}
 use Rattle.tree_insert.specs.Outcomes.{InsertBy, InsertOutcome}
-use Rattle.tree_range.specs.Outcomes.{RangeValueOutcome, Scans, key_told, scan_told}
+use Rattle.tree_range.specs.Outcomes.{RangeValueOutcome, Scans, key_told, seen}
 use Rattle.tree_range.specs.Outcomes as range
 use Rattle.tree_range.specs.Scans.{Allowed}
 use Rattle.tree_range.specs.Walked.{Walked, pair_seen, walked_all}
-use Rattle.tree_range.specs.declared.Scan.{Scan}
+use Rattle.tree_range.specs.declared.Seen.{Seen}
 use Rattle.tree_remove.specs.Outcomes.{RemoveBy, RemoveOutcome}
 
 -- a key of the map and its value are within the bounds of all pairs
 
 true_false : {A : Type 0} → true ≡ false → A
-true_false e = absurd (let z : ◌≡◌ {A = ℕ} 0 1 = ap (λ (b : Bool). elim b [ true ↦ 0 | false ↦ 1 ]) e in omega (arith, z))
+true_false e = cc e
 
-none_some : {A B : Type 0} {v : A} → ◌≡◌ {A = Option A} none (some v) → B
-none_some {A} e = absurd (let z : ◌≡◌ {A = ℕ} 0 1 = ap (λ (o : Option A). elim o [ none ↦ 0 | some a ↦ 1 ]) e in omega (arith, z))
+none_some : {A B : Type 0} {v : A} → ◌≡◌ {A = math.Option A} none (some v) → B
+none_some e = cc e
 
 pub found_within : (B : Bounds) (k : Bytes) (m : List Pair) (v : Bytes) → All (Within B) m → lookup k m ≡ some v → (length k ≤ B.key_most) × (length v ≤ B.value_most)
 unfolding lookup
@@ -85,7 +82,7 @@ behind : (out : Bytes) {now_out : Bytes} (b : Bytes) → now_out ≡ put out 0 b
 behind out b e = ap (drop (length b)) e ∙ drop-put_after out 0 b (length b) (omega arith) (omega arith)
 
 module _ {s : State} {ns : List Node} {m : List Pair} {within : (kmost vmost : ℕ) → Type 0} (x : Stands s ns m within) where
-  looked : (k : Bytes) {o : Option Bytes} → lookup k (pairs_of ns) ≡ o → lookup k m ≡ o
+  looked : (k : Bytes) {o : math.Option Bytes} → lookup k (pairs_of ns) ≡ o → lookup k m ≡ o
   looked k e = ap (lookup k) (sym x.pairs_are) ∙ e
 
   tiled : Tiled (limits s.header.fanout) ns
@@ -94,24 +91,24 @@ module _ {s : State} {ns : List Node} {m : List Pair} {within : (kmost vmost : �
   -- lookups
 
   module _ (k : Bytes) where
-    get_told : (b : Bool) → long_key k ≡ b → (o : Option Bytes) → lookup k (pairs_of ns) ≡ o
-        → GetSays s.arena k m (found_told (place_of s.header s.dir s.slots s.arena ns k) (refuse_if b LongKey (accepted o)))
+    get_told : (b : Bool) → long_key k ≡ b → (o : math.Option Bytes) → lookup k (pairs_of ns) ≡ o
+        → GetSays s.arena k m (told (found (place_of s.header s.dir s.slots s.arena ns k)) (refuse_if b LongKey (accepted o)))
     get_told true e o l = record { refused = refl; long = ltb-true key_limit (length k) e }
     get_told false e none l = (looked k l, ltb-false key_limit (length k) e)
     get_told false e (some v) l = let q = value_lies (presumed x) k v l in (record { found = looked k l ∙ ap some (sym q.is); inside = q.inside }, ltb-false key_limit (length k) e)
 
-    get_says : (r : Found) → GetOutcome s.header s.dir s.slots s.arena k r → GetSays s.arena k m r
-    get_says r o = subst (GetSays s.arena k m) (sym (answered x (λ l. Gives found_code (found_told (place_of s.header s.dir s.slots s.arena l k) (get_answer k l)) (answer_code (get_answer k l)) r) o).answer_is) (get_told (long_key k) refl (lookup k (pairs_of ns)) refl)
+    get_says : (r : Result (Option Found) Refusal) → GetOutcome s.header s.dir s.slots s.arena k r → GetSays s.arena k m r
+    get_says r o = subst (GetSays s.arena k m) (sym (answered x (λ l. Gives result_code (told (found (place_of s.header s.dir s.slots s.arena l k)) (get_answer k l)) (answer_code (get_answer k l)) r) o).answer_is) (get_told (long_key k) refl (lookup k (pairs_of ns)) refl)
 
-    contains_told : (b : Bool) → long_key k ≡ b → (o : Option Bytes) → lookup k (pairs_of ns) ≡ o → ContainsSays k m (contained_told (refuse_if b LongKey (accepted (is_some o))))
+    contains_told : (b : Bool) → long_key k ≡ b → (o : math.Option Bytes) → lookup k (pairs_of ns) ≡ o → ContainsSays k m (told (λ (q : Bool). q) (refuse_if b LongKey (accepted (is_some o))))
     contains_told true e o l = record { refused = refl; long = ltb-true key_limit (length k) e }
     contains_told false e none l = (looked k l, ltb-false key_limit (length k) e)
     contains_told false e (some v) l = ((λ q. none_some (sym q ∙ looked k l)), ltb-false key_limit (length k) e)
 
-    contains_says : (r : Contained) → ContainsOutcome s.header s.dir s.slots s.arena k r → ContainsSays k m r
-    contains_says r o = subst (ContainsSays k m) (sym (answered x (λ l. Gives contained_code (contained_told (contains_answer k l)) (answer_code (contains_answer k l)) r) o).answer_is) (contains_told (long_key k) refl (lookup k (pairs_of ns)) refl)
+    contains_says : (r : Result Bool Refusal) → ContainsOutcome s.header s.dir s.slots s.arena k r → ContainsSays k m r
+    contains_says r o = subst (ContainsSays k m) (sym (answered x (λ l. Gives result_code (told (λ (q : Bool). q) (contains_answer k l)) (answer_code (contains_answer k l)) r) o).answer_is) (contains_told (long_key k) refl (lookup k (pairs_of ns)) refl)
 
-    value_told_lem : (b : Bool) → long_key k ≡ b → (o : Option Bytes) → lookup k (pairs_of ns) ≡ o → value_told (refuse_if b LongKey (accepted o)) ≡ bytes_of (lookup k m)
+    value_told_lem : (b : Bool) → long_key k ≡ b → (o : math.Option Bytes) → lookup k (pairs_of ns) ≡ o → value_told (refuse_if b LongKey (accepted o)) ≡ bytes_of (lookup k m)
     value_told_lem true e none l = ap bytes_of (sym (looked k l))
     value_told_lem true e (some v) l =
         absurd (omega (arith, ltb-true key_limit (length k) e, (found_within (limits s.header.fanout) k (pairs_of ns) v (pairs_within (limits s.header.fanout) ns tiled) l).0))
@@ -121,13 +118,13 @@ module _ {s : State} {ns : List Node} {m : List Pair} {within : (kmost vmost : �
     value_says : (r : Bytes) → ValueOutcome s.header s.dir s.slots s.arena k r → r ≡ bytes_of (lookup k m)
     value_says r o = answered x (λ l. r ≡ value_told (get_answer k l)) o ∙ value_told_lem (long_key k) refl (lookup k (pairs_of ns)) refl
 
-  len_says : (r : Length) → LenOutcome s.header s.dir s.slots s.arena r → LenSays m r
-  len_says r o = subst (LenSays m) (sym (answered x (λ l. Gives length_code (len_told (len_answer l)) (answer_code (len_answer l)) r) o).answer_is) (ap length x.pairs_are)
+  len_says : (r : Result ℕ Refusal) → LenOutcome s.header s.dir s.slots s.arena r → LenSays m r
+  len_says r o = subst (LenSays m) (sym (answered x (λ l. Gives result_code (told (λ (n : ℕ). n) (len_answer l)) (answer_code (len_answer l)) r) o).answer_is) (ap length x.pairs_are)
 
   -- scans
 
   module _ (r : Range) (start end : Bytes) where
-    scanned : {o : Option Pair} → first_in r start end (pairs_of ns) ≡ o → first_in r start end m ≡ o
+    scanned : {o : math.Option Pair} → first_in r start end (pairs_of ns) ≡ o → first_in r start end m ≡ o
     scanned e = ap (first_in r start end) (sym x.pairs_are) ∙ e
 
     abbrev place : Bytes → ℕ
@@ -141,10 +138,10 @@ module _ {s : State} {ns : List Node} {m : List Pair} {within : (kmost vmost : �
     seen_is out now_out p f e =
         pair_path _ p (front out p.key e) (lies p f).is
 
-    found_told_lem : (out now_out : Bytes) → Allowed r start end → (o : Option Pair) → first_in r start end (pairs_of ns) ≡ o → (d : Bool) → short (length out) (key_of o) ≡ d
+    found_told_lem : (out now_out : Bytes) → Allowed r start end → (o : math.Option Pair) → first_in r start end (pairs_of ns) ≡ o → (d : Bool) → short (length out) (key_of o) ≡ d
         → now_out ≡ put out 0 (key_told (refuse_if d (ShortOutput (size_of (key_of o))) (accepted o)))
-        → ScanSays s.arena r start end m out now_out (scan_told place (refuse_if d (ShortOutput (size_of (key_of o))) (accepted o)))
-    found_told_lem out now_out a none f true h e = absurd (let z : ◌≡◌ {A = ℕ} 0 1 = ap (λ (b : Bool). elim b [ true ↦ 1 | false ↦ 0 ]) h in omega (arith, z))
+        → ScanSays s.arena r start end m out now_out (told (seen place) (refuse_if d (ShortOutput (size_of (key_of o))) (accepted o)))
+    found_told_lem out now_out a none f true h e = true_false (sym h)
     found_told_lem out now_out a none f false h e = (scanned f, (e ∙ put-nil out 0, a))
     found_told_lem out now_out a (some p) f true h e = (short_key a p (scanned f) (ltb-true (length out) (length p.key) h), e ∙ put-nil out 0)
     found_told_lem out now_out a (some p) f false h e = (
@@ -161,20 +158,20 @@ module _ {s : State} {ns : List Node} {m : List Pair} {within : (kmost vmost : �
     scan_told_lem : (out now_out : Bytes) (a b c : Bool) → long_bound r.start start ≡ a → long_bound r.end end ≡ b → inverted r start end ≡ c
         → now_out ≡ put out 0 (key_told (key_written (length out) (refuse_if a LongKey (refuse_if b LongKey (refuse_if c InvertedRange (accepted (first_in r start end (pairs_of ns))))))))
         → ScanSays s.arena r start end m out now_out
-        (scan_told place (key_written (length out) (refuse_if a LongKey (refuse_if b LongKey (refuse_if c InvertedRange (accepted (first_in r start end (pairs_of ns))))))))
+        (told (seen place) (key_written (length out) (refuse_if a LongKey (refuse_if b LongKey (refuse_if c InvertedRange (accepted (first_in r start end (pairs_of ns))))))))
     scan_told_lem out now_out true b c i j k e = (long_start i, e ∙ put-nil out 0)
     scan_told_lem out now_out false true c i j k e = (long_end j, e ∙ put-nil out 0)
     scan_told_lem out now_out false false true i j k e = (inverted_range i j k, e ∙ put-nil out 0)
     scan_told_lem out now_out false false false i j k e =
         found_told_lem out now_out (record { start_short = i; end_short = j; upright = k }) (first_in r start end (pairs_of ns)) refl (short (length out) (key_of (first_in r start end (pairs_of ns)))) refl e
 
-    scan_says : (out now_out : Bytes) (q : Scan) → Scans s.header s.dir s.slots s.arena ns (range_answer r start end (length out) ns) out now_out q
+    scan_says : (out now_out : Bytes) (q : Result (Option Seen) Refusal) → Scans s.header s.dir s.slots s.arena ns (range_answer r start end (length out) ns) out now_out q
         → ScanSays s.arena r start end m out now_out q
     scan_says out now_out q o =
         subst (ScanSays s.arena r start end m out now_out) (sym o.answer_is)
         (scan_told_lem out now_out (long_bound r.start start) (long_bound r.end end) (inverted r start end) refl refl refl o.out_is)
 
-    range_value_told : (o : Option Pair) → range.value_told (accepted o) ≡ bytes_of (value_of o)
+    range_value_told : (o : math.Option Pair) → range.value_told (accepted o) ≡ bytes_of (value_of o)
     range_value_told none = refl
     range_value_told (some p) = refl
 
@@ -196,7 +193,7 @@ module _ {s : State} {ns : List Node} {m : List Pair} {within : (kmost vmost : �
   -- old values
 
   module _ (k : Bytes) where
-    old_told_lem : (out now_out : Bytes) (may : Type 0) (why : Refusal → Type 0) → may → (o : Option Bytes) → lookup k (pairs_of ns) ≡ o → short (length out) o ≡ false → now_out ≡ put out 0 (old_bytes o)
+    old_told_lem : (out now_out : Bytes) (may : Type 0) (why : Refusal → Type 0) → may → (o : math.Option Bytes) → lookup k (pairs_of ns) ≡ o → short (length out) o ≡ false → now_out ≡ put out 0 (old_bytes o)
         → OldSays k m out now_out may why (old_told o)
     old_told_lem out now_out may why a none l d e = (looked k l, (e ∙ put-nil out 0, a))
     old_told_lem out now_out may why a (some v) l d e =
@@ -210,7 +207,7 @@ module _ {s : State} {ns : List Node} {m : List Pair} {within : (kmost vmost : �
       made_says : (ms : List Node) → may → short (length out) (lookup k (pairs_of ns)) ≡ false → changes.Made (record { old = lookup k (pairs_of ns); nodes = ms }) s.header (lending s out) r after → OldSays k m out after.out may why r.old
       made_says ms a d b = subst (OldSays k m out after.out may why) (sym b.answer.answer_is) (old_told_lem out after.out may why a (lookup k (pairs_of ns)) refl d b.out_is)
 
-    short_says : (out : Bytes) (may : Type 0) → may → (o : Option Bytes) → lookup k (pairs_of ns) ≡ o → short (length out) o ≡ true → OldRefused k m out may (ShortOutput (size_of o))
+    short_says : (out : Bytes) (may : Type 0) → may → (o : math.Option Bytes) → lookup k (pairs_of ns) ≡ o → short (length out) o ≡ true → OldRefused k m out may (ShortOutput (size_of o))
     short_says out may a none l h = true_false (sym h)
     short_says out may a (some v) l h = short_output a v (looked k l) (ltb-true (length out) (length v) h)
 
@@ -266,36 +263,36 @@ module _ {s : State} {ns : List Node} {m : List Pair} {within : (kmost vmost : �
 
 -- scan_prefix
 
-refused_as : {x y : Refusal} → prefixed.Refused x ≡ prefixed.Refused y → y ≡ x
-refused_as {x} {y} e = ap (λ (q : Prefixed). elim q [ Made z ↦ y | prefixed.Refused z ↦ z ]) (sym e)
+refused_as : {x y : Refusal} → ◌≡◌ {A = Result Span Refusal} (Err x) (Err y) → y ≡ x
+refused_as e = sym (cc e)
 
-made_refused : {A : Type 0} {x : Span} {y : Refusal} → Made x ≡ prefixed.Refused y → A
-made_refused e = absurd (let z : ◌≡◌ {A = ℕ} 0 1 = ap (λ (q : Prefixed). elim q [ Made v ↦ 0 | prefixed.Refused v ↦ 1 ]) e in omega (arith, z))
+made_refused : {A : Type 0} {x : Span} {y : Refusal} → Ok x ≡ Err y → A
+made_refused e = cc e
 
-made_same : {x y : Span} → Made x ≡ Made y → x ≡ y
-made_same {x} e = ap (λ (q : Prefixed). elim q [ Made z ↦ z | prefixed.Refused z ↦ x ]) e
+made_same : {x y : Span} → ◌≡◌ {A = Result Span Refusal} (Ok x) (Ok y) → x ≡ y
+made_same e = cc e
 
-prefix_refused : (p out now_out : Bytes) (y : Refusal) (a c : Bool) (e : Option Bytes) → long_key p ≡ a → prefix_end p ≡ e → short (length out) e ≡ c
-    → PrefixBy (refuse_if a LongKey (refuse_if c (ShortOutput (size_of e)) (accepted (record { range = prefix_range e; end = e })))) out now_out (prefixed.Refused y)
+prefix_refused : (p out now_out : Bytes) (y : Refusal) (a c : Bool) (e : math.Option Bytes) → long_key p ≡ a → prefix_end p ≡ e → short (length out) e ≡ c
+    → PrefixBy (refuse_if a LongKey (refuse_if c (ShortOutput (size_of e)) (accepted (record { range = prefix_range e; end = e })))) out now_out (Err y)
     → PrefixRefused p out y × (now_out ≡ out)
 prefix_refused p out now_out y true c e i j l o = (rw (refused_as (sym o.answer_is)) (long_prefix (ltb-true key_limit (length p) i)), o.out_is)
 prefix_refused p out now_out y false true none i j l o = true_false (sym l)
 prefix_refused p out now_out y false true (some q) i j l o = (rw (refused_as (sym o.answer_is)) (short_end (ltb-false key_limit (length p) i) q j (ltb-true (length out) (length q) l)), o.out_is)
 prefix_refused p out now_out y false false e i j l o =
-    absurd (let z : ◌≡◌ {A = ℕ} 0 1 = ap (λ (q : Prefixed). elim q [ Made v ↦ 1 | prefixed.Refused v ↦ 0 ]) o.answer_is in omega (arith, z))
+    made_refused (sym o.answer_is)
 
 -- the end is above the prefix, and not longer
 end_allowed : (p e : Bytes) → NotLong p → prefix_end p ≡ some e → Allowed (prefix_range (some e)) p e
 end_allowed p e h j =
-    let u : p ≺ e = subst (λ (o : Option Bytes). Under o p) j (end_above p) in
+    let u : p ≺ e = subst (λ (o : math.Option Bytes). Under o p) j (end_above p) in
     record {
       start_short = le-ltb key_limit (length p) h;
       end_short = le-ltb key_limit (length e) (omega (arith, h, end_not_longer p e j));
       upright = rw (cmp_before u);
     }
 
-prefix_made : (p out now_out : Bytes) (x : Span) (a c : Bool) (e : Option Bytes) → long_key p ≡ a → prefix_end p ≡ e → short (length out) e ≡ c → PrefixOutcome p out now_out (Made x)
-    → PrefixBy (refuse_if a LongKey (refuse_if c (ShortOutput (size_of e)) (accepted (record { range = prefix_range e; end = e })))) out now_out (Made x) → PrefixLies p out now_out x
+prefix_made : (p out now_out : Bytes) (x : Span) (a c : Bool) (e : math.Option Bytes) → long_key p ≡ a → prefix_end p ≡ e → short (length out) e ≡ c → PrefixOutcome p out now_out (Ok x)
+    → PrefixBy (refuse_if a LongKey (refuse_if c (ShortOutput (size_of e)) (accepted (record { range = prefix_range e; end = e })))) out now_out (Ok x) → PrefixLies p out now_out x
 prefix_made p out now_out x true c e i j l q o = made_refused o.answer_is
 prefix_made p out now_out x false true e i j l q o = made_refused o.answer_is
 prefix_made p out now_out x false false none i j l q o =
@@ -325,9 +322,9 @@ prefix_made p out now_out x false false (some b) i j l q o =
       not_long = ltb-false key_limit (length p) i;
     }
 
-prefix_says : (p out now_out : Bytes) (r : Prefixed) → PrefixOutcome p out now_out r → PrefixSays p out now_out r
-prefix_says p out now_out (Made y) o = prefix_made p out now_out y (long_key p) (short (length out) (prefix_end p)) (prefix_end p) refl refl refl o o
-prefix_says p out now_out (prefixed.Refused y) o = prefix_refused p out now_out y (long_key p) (short (length out) (prefix_end p)) (prefix_end p) refl refl refl o
+prefix_says : (p out now_out : Bytes) (r : Result Span Refusal) → PrefixOutcome p out now_out r → PrefixSays p out now_out r
+prefix_says p out now_out (Ok y) o = prefix_made p out now_out y (long_key p) (short (length out) (prefix_end p)) (prefix_end p) refl refl refl o o
+prefix_says p out now_out (Err y) o = prefix_refused p out now_out y (long_key p) (short (length out) (prefix_end p)) (prefix_end p) refl refl refl o
 
 -- all together
 
@@ -337,7 +334,7 @@ read_says x (len r o) = len_says x r o
 read_says x (get k r o) = get_says x k r o
 read_says x (get_value k r o) = value_says x k r o
 read_says x (contains_key k r o) = contains_says x k r o
-read_says {s} x (leaf_at place r o) = (answered x (λ l. Shows s.header s.dir s.slots s.arena place (leaf_answer place l) r) o).shown
+read_says {s} x (leaf_at place r o) = answered x (λ l. reads.Shows s.header s.dir s.slots s.arena place l r) o
 read_says {s} x (first_in_range range start end out now_out r o) =
     scan_says x range start end out now_out r (answered x (λ l. Scans s.header s.dir s.slots s.arena l (range_answer range start end (length out) l) out now_out r) o)
 read_says x (range_value range start end r o) = range_value_says x range start end r o

@@ -2,14 +2,13 @@
 -- overlap and outnumber the pairs by one at most; each split cuts the pairs in order into two nonempty halves at a shortest string; and where K
 -- and V bound every accepted insert, with P + 1 leaves and P x (2K + V) arena bytes no insert within P, K and V is refused 7 or 8.
 -- Assumes nothing.
-use Rattle.std.specs.Prelude.{◌*◌, ◌+◌, ◌<◌, ◌≤◌, suc, ℕ, false, true, List, ◌≡◌, refl, eqb, length}
-use Rattle.std.proofs.Math.Option.{Option, none, some}
-use Rattle.std.proofs.Common.{◌∙◌, ap, subst, sym, arith, eqb-true, le-ltb}
+use Rattle.std.specs.Prelude.{◌*◌, ◌+◌, ◌<◌, ◌≤◌, suc, ℕ, false, true, List, ◌≡◌, refl, eqb, length, Err, Ok}
+use Rattle.std.proofs.Math.Option as math
+use Rattle.std.proofs.Math.Option.{none, some}
+use Rattle.std.proofs.Common.{Option, Result, ◌∙◌, ap, subst, sym, arith, eqb-true, le-ltb}
 use Rattle.std.proofs.lemmas.Bool.{eqb-false}
 use Rattle.changes.specs.Outcomes.{ChangedBy, Lent, old_told}
 use Rattle.changes.specs.declared.Changed.{Changed}
-use Rattle.changes.specs.declared.Old.{Old}
-use Rattle.changes.specs.declared.Old.TheVariants.{Nothing, Refused, Value}
 use Rattle.history.specs.Answers.{found_within}
 use Rattle.history.specs.Histories.{Call, History, State, Within, clear, create, if_not_done, if_refused, insert, leaves_of, lending, map_of, on, read, remove}
 use Rattle.history.specs.Stands.{answered, presumed, stands}
@@ -38,8 +37,6 @@ use Rattle.model.proofs.StoredLaws.{stored_charge}
 use Rattle.model.specs.declared.Refusal.{Refusal}
 use Rattle.model.specs.declared.Refusal.TheVariants.{NoLeaf, NoRoom}
 use Rattle.order.specs.Bytes.{Bytes}
-use Rattle.tree_create.specs.declared.Change.{Change}
-use Rattle.tree_create.specs.declared.Change.TheVariants as change
 use Rattle.tree_insert.specs.Outcomes.{InsertBy, InsertOutcome}
 
 -- every byte string is in the span of exactly one leaf
@@ -110,19 +107,17 @@ module _ {s : State} (h : History s) where
         | fails t ↦ absurd (omega (arith, l, insert_no_split F k v ns (eqb-false (length (put k v (owned k ns))) F t)))
       ]
 
-  inserted_splits : (k v : Bytes) (o : Old) → length ns < length (if_refused o ns (insert_rule F k v ns)) → SplitOf k v (lowest_free ns) ns (if_refused o ns (insert_rule F k v ns))
-  inserted_splits k v (Refused x) l = absurd (omega (arith, l))
-  inserted_splits k v Nothing l = insert_splits k v l
-  inserted_splits k v (Value n) l = insert_splits k v l
+  inserted_splits : (k v : Bytes) (o : Result (Option ℕ) Refusal) → length ns < length (if_refused o ns (insert_rule F k v ns)) → SplitOf k v (lowest_free ns) ns (if_refused o ns (insert_rule F k v ns))
+  inserted_splits k v (Err x) l = absurd (omega (arith, l))
+  inserted_splits k v (Ok u) l = insert_splits k v l
 
-  removed_fewer : (k : Bytes) (o : Old) → length (if_refused o ns (remove_rule true k ns)) ≤ length ns
-  removed_fewer k (Refused x) = omega arith
-  removed_fewer k Nothing = tiles_first (λ l. length (remove_rule true k l) ≤ length l) (λ n l e t. omega (arith, remove_count true k n l)) ns tiles
-  removed_fewer k (Value n) = tiles_first (λ l. length (remove_rule true k l) ≤ length l) (λ n l e t. omega (arith, remove_count true k n l)) ns tiles
+  removed_fewer : (k : Bytes) (o : Result (Option ℕ) Refusal) → length (if_refused o ns (remove_rule true k ns)) ≤ length ns
+  removed_fewer k (Err x) = omega arith
+  removed_fewer k (Ok u) = tiles_first (λ l. length (remove_rule true k l) ≤ length l) (λ n l e t. omega (arith, remove_count true k n l)) ns tiles
 
-  fresh_fewer : (a : Change) → length (if_not_done a ns fresh) ≤ length ns
-  fresh_fewer (change.Refused x) = omega arith
-  fresh_fewer change.Done = tiles_first (λ l. 1 ≤ length l) (λ n l e t. omega arith) ns tiles
+  fresh_fewer : (a : Result (Unit {0}) Refusal) → length (if_not_done a ns fresh) ≤ length ns
+  fresh_fewer (Err x) = omega arith
+  fresh_fewer (Ok u) = tiles_first (λ l. 1 ≤ length l) (λ n l e t. omega arith) ns tiles
 
   pub each_split : {t : State} (c : Call s t) → length (leaves_of h) < length (leaves_of (on h c)) → SplitBy c (leaves_of h) (leaves_of (on h c))
   each_split (read c) l = omega (arith, l)
@@ -133,12 +128,12 @@ module _ {s : State} (h : History s) where
 
   -- the sizing. Demand 3 also bounds the pairs that earlier inserts left by P; that isn't needed
 
-  refused_is : {x y : Refusal} → Refused x ≡ Refused y → x ≡ y
-  refused_is {x} e = ap (λ (o : Old). elim o [ Value n ↦ x | Nothing ↦ x | Refused z ↦ z ]) e
+  refused_is : {x y : Refusal} → ◌≡◌ {A = Result (Option ℕ) Refusal} (Err x) (Err y) → x ≡ y
+  refused_is e = cc e
 
-  told_not_refused : {x : Refusal} {q : Old} (o : Option Bytes) → q ≡ old_told o → q ≡ Refused x → ⊥
-  told_not_refused none e f = let z : ◌≡◌ {A = ℕ} 0 1 = ap (λ (o : Old). if_refused o 1 0) (sym e ∙ f) in omega (arith, z)
-  told_not_refused (some v) e f = let z : ◌≡◌ {A = ℕ} 0 1 = ap (λ (o : Old). if_refused o 1 0) (sym e ∙ f) in omega (arith, z)
+  told_not_refused : {x : Refusal} {q : Result (Option ℕ) Refusal} (o : math.Option Bytes) → q ≡ old_told o → q ≡ Err x → ⊥
+  told_not_refused none e f = cc (e, f)
+  told_not_refused (some v) e f = cc (e, f)
 
   module _ (kmost vmost P : ℕ) (a : Within kmost vmost h) (pool : P + 1 ≤ length s.dir) (arena : P * (2 * kmost + vmost) ≤ length s.arena) where
     module _ (k v out : Bytes) (r : Changed) (after : Lent) (hk : length k ≤ kmost) (hv : length v ≤ vmost) (few : length (put k v (map_of h)) ≤ P)
@@ -147,18 +142,18 @@ module _ {s : State} (h : History s) where
       few_now = rw (stands h).pairs_are few
 
       sized_by : (b : Answer model.Changed) → insert_answer F (length s.dir) (length s.arena) k v (length out) ns ≡ b → ChangedBy b s.header (lending s out) r after
-          → (r.old ≡ Refused NoLeaf → ⊥) × (r.old ≡ Refused NoRoom → ⊥)
+          → (r.old ≡ Err NoLeaf → ⊥) × (r.old ≡ Err NoRoom → ⊥)
       sized_by (refused x) e c =
           let q = sizing_answer F kmost vmost P (length s.dir) (length s.arena) three pool arena ns ((stands h).reached kmost vmost a) k v hk hv few_now (length out) x e in
           ((λ f. q.0 (refused_is (sym c.answer.answer_is ∙ f))), λ f. q.1 (refused_is (sym c.answer.answer_is ∙ f)))
       sized_by (accepted c) e b = (told_not_refused c.old b.answer.answer_is, told_not_refused c.old b.answer.answer_is)
 
       -- a refusal that the answer is not, the call does not give
-      not_given : {x : Refusal} (b : Answer model.Changed) → ((y : Refusal) → b ≡ refused y → y ≡ x → ⊥) → ChangedBy b s.header (lending s out) r after → r.old ≡ Refused x → ⊥
+      not_given : {x : Refusal} (b : Answer model.Changed) → ((y : Refusal) → b ≡ refused y → y ≡ x → ⊥) → ChangedBy b s.header (lending s out) r after → r.old ≡ Err x → ⊥
       not_given (refused y) n c f = n y refl (refused_is (sym c.answer.answer_is ∙ f))
       not_given (accepted c) n b f = told_not_refused c.old b.answer.answer_is f
 
-      pub sized : (r.old ≡ Refused NoLeaf → ⊥) × (r.old ≡ Refused NoRoom → ⊥)
+      pub sized : (r.old ≡ Err NoLeaf → ⊥) × (r.old ≡ Err NoRoom → ⊥)
       sized =
           let b = insert_answer F (length s.dir) (length s.arena) k v (length out) ns in
           let told : ChangedBy b s.header (lending s out) r after = answered (stands h) (InsertBy s.header k v (lending s out) r after) o in
@@ -167,7 +162,7 @@ module _ {s : State} (h : History s) where
 
       -- so with K and V within the limits and an output that old values fit, it is not refused at all
 
-      old_fits : (u : Option Bytes) → ((z : Bytes) → u ≡ some z → length z ≤ length out) → short (length out) u ≡ false
+      old_fits : (u : math.Option Bytes) → ((z : Bytes) → u ≡ some z → length z ≤ length out) → short (length out) u ≡ false
       old_fits none f = refl
       old_fits (some z) f = le-ltb (length out) (length z) (f z refl)
 

@@ -1,10 +1,9 @@
 -- Histories: what a caller may do with an index from its creation on. Each call has an outcome that the entry point's contract allows, and the
 -- next call is lent what this one left, untouched.
-use Rattle.std.specs.Prelude.{ℕ, ◌≤◌, Bool, true, List, [], ◌≡◌, length}
+use Rattle.std.proofs.Common.{Option, Result}
+use Rattle.std.specs.Prelude.{ℕ, ◌≤◌, Bool, true, List, [], ◌≡◌, length, None, Some, Ok, Err}
 use Rattle.changes.specs.Outcomes.{Lent, lent}
 use Rattle.changes.specs.declared.Changed.{Changed}
-use Rattle.changes.specs.declared.Old.{Old}
-use Rattle.changes.specs.declared.Old.TheVariants as old
 use Rattle.layout.specs.Lays.{Holds, W}
 use Rattle.layout.specs.declared.Header.{Header}
 use Rattle.lists.specs.Exact.{Exact}
@@ -15,20 +14,17 @@ use Rattle.model.specs.Rules.{clear_rule, fresh, insert_rule, remove_rule}
 use Rattle.model.specs.declared.Range.{Range}
 use Rattle.order.specs.Bytes.{Bytes}
 use Rattle.prefixes.specs.Outcome.{PrefixOutcome}
-use Rattle.prefixes.specs.declared.Prefixed.{Prefixed}
 use Rattle.tree_create.specs.Outcomes.{ClearOutcome, CreateOutcome, LenOutcome}
 use Rattle.tree_create.specs.declared.Answered.{Answered}
-use Rattle.tree_create.specs.declared.Change.{Change}
-use Rattle.tree_create.specs.declared.Change.TheVariants.{Done, Refused}
-use Rattle.tree_create.specs.declared.Length.{Length}
 use Rattle.tree_get.specs.Outcomes.{ContainsOutcome, GetOutcome, LeafOutcome, ValueOutcome}
-use Rattle.tree_get.specs.declared.Contained.{Contained}
 use Rattle.tree_get.specs.declared.Found.{Found}
 use Rattle.tree_get.specs.declared.Shown.{Shown}
 use Rattle.tree_insert.specs.Outcomes.{InsertOutcome}
 use Rattle.tree_range.specs.Outcomes.{FirstOutcome, GtOutcome, RangeOutcome, RangeValueOutcome}
-use Rattle.tree_range.specs.declared.Scan.{Scan}
+use Rattle.tree_range.specs.declared.Seen.{Seen}
 use Rattle.tree_remove.specs.Outcomes.{RemoveOutcome}
+use Rattle.prefixes.specs.declared.Span.{Span}
+use Rattle.model.specs.declared.Refusal.{Refusal}
 
 -- what the caller keeps between calls: the header and the three lent buffers
 pub record State : Type 0 where
@@ -49,28 +45,27 @@ handed r after = state r.header after.dir after.slots after.arena
 
 -- the first where a call was refused, else the second
 
-abbrev pub if_not_done {ℓ} : {A : Type ℓ} → Change → A → A → A
-if_not_done (Refused x) a b = a
-if_not_done Done a b = b
+abbrev pub if_not_done {ℓ} : {A : Type ℓ} → Result (Unit {0}) Refusal → A → A → A
+if_not_done (Err x) a b = a
+if_not_done (Ok u) a b = b
 
-abbrev pub if_refused {ℓ} : {A : Type ℓ} → Old → A → A → A
-if_refused (old.Refused x) a b = a
-if_refused old.Nothing a b = b
-if_refused (old.Value n) a b = b
+abbrev pub if_refused {ℓ} : {A : Type ℓ} → Result (Option ℕ) Refusal → A → A → A
+if_refused (Err x) a b = a
+if_refused (Ok o) a b = b
 
 -- a call that changes nothing, with its answer and what its output then holds
 pub data Reading (s : State) : Type 0 where
   holds_index : (r : Bool) → Exact r (W s.header s.dir s.slots s.arena) → Reading s
-  len : (r : Length) → LenOutcome s.header s.dir s.slots s.arena r → Reading s
-  get : (k : Bytes) (r : Found) → GetOutcome s.header s.dir s.slots s.arena k r → Reading s
+  len : (r : Result ℕ Refusal) → LenOutcome s.header s.dir s.slots s.arena r → Reading s
+  get : (k : Bytes) (r : Result (Option Found) Refusal) → GetOutcome s.header s.dir s.slots s.arena k r → Reading s
   get_value : (k r : Bytes) → ValueOutcome s.header s.dir s.slots s.arena k r → Reading s
-  contains_key : (k : Bytes) (r : Contained) → ContainsOutcome s.header s.dir s.slots s.arena k r → Reading s
-  leaf_at : (place : ℕ) (r : Shown) → LeafOutcome s.header s.dir s.slots s.arena place r → Reading s
-  first_in_range : (range : Range) (start end out now_out : Bytes) (r : Scan) → RangeOutcome s.header s.dir s.slots s.arena range start end out now_out r → Reading s
+  contains_key : (k : Bytes) (r : Result Bool Refusal) → ContainsOutcome s.header s.dir s.slots s.arena k r → Reading s
+  leaf_at : (place : ℕ) (r : Result (Option Shown) Refusal) → LeafOutcome s.header s.dir s.slots s.arena place r → Reading s
+  first_in_range : (range : Range) (start end out now_out : Bytes) (r : Result (Option Seen) Refusal) → RangeOutcome s.header s.dir s.slots s.arena range start end out now_out r → Reading s
   range_value : (range : Range) (start end r : Bytes) → RangeValueOutcome s.header s.dir s.slots s.arena range start end r → Reading s
-  get_gt : (k out now_out : Bytes) (r : Scan) → GtOutcome s.header s.dir s.slots s.arena k out now_out r → Reading s
-  first : (out now_out : Bytes) (r : Scan) → FirstOutcome s.header s.dir s.slots s.arena out now_out r → Reading s
-  scan_prefix : (p out now_out : Bytes) (r : Prefixed) → PrefixOutcome p out now_out r → Reading s
+  get_gt : (k out now_out : Bytes) (r : Result (Option Seen) Refusal) → GtOutcome s.header s.dir s.slots s.arena k out now_out r → Reading s
+  first : (out now_out : Bytes) (r : Result (Option Seen) Refusal) → FirstOutcome s.header s.dir s.slots s.arena out now_out r → Reading s
+  scan_prefix : (p out now_out : Bytes) (r : Result Span Refusal) → PrefixOutcome p out now_out r → Reading s
 
 -- any call, accepted or refused: its arguments, what it answered and left, and that its contract allows this. What a function borrows without `mut`
 -- stays by its signature: header and buffers of a reading call, the arena of creation and `clear`
@@ -86,7 +81,7 @@ pub data Call : State → State → Type 0 where
 
 -- a fresh index, by an accepted creation or as header and buffers hold one, and any calls after it
 pub data History : State → Type 0 where
-  begin : (fanout : ℕ) (dir slots arena now_dir now_slots : List ℕ) (r : Answered) → CreateOutcome fanout dir slots arena now_dir now_slots r → r.answer ≡ Done
+  begin : (fanout : ℕ) (dir slots arena now_dir now_slots : List ℕ) (r : Answered) → CreateOutcome fanout dir slots arena now_dir now_slots r → r.answer ≡ Ok tt
       → History (state r.header now_dir now_slots arena)
   found : {s : State} → Holds s.header s.dir s.slots s.arena fresh → History s
   on : {s t : State} → History s → Call s t → History t
@@ -161,10 +156,10 @@ made_with (on h c) = measures_after c (made_with h)
 
 -- a call that reads or is refused, and a remove that answers none
 
-abbrev pub NoValue : Old → Type 0
-NoValue (old.Refused x) = Unit {0}
-NoValue old.Nothing = Unit {0}
-NoValue (old.Value n) = ⊥
+abbrev pub NoValue : Result (Option ℕ) Refusal → Type 0
+NoValue (Err x) = Unit {0}
+NoValue (Ok None) = Unit {0}
+NoValue (Ok (Some n)) = ⊥
 
 abbrev pub Idle : {s t : State} → Call s t → Type 0
 Idle (read c) = Unit {0}

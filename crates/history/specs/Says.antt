@@ -1,14 +1,14 @@
 -- What the ordered map m, and for `leaf_at` and refusals 7 and 8 the leaf list ns, says to a call: what each answer that the call may give, read as
 -- its caller reads it, means of them.
-use Rattle.std.specs.Prelude.{ℕ, ◌+◌, ◌≤◌, ◌<◌, false, true, List, [], ◌≡◌, drop, length, take}
-use Rattle.std.proofs.Math.Option.{Option, none, some}
-use Rattle.changes.specs.declared.Old.{Old}
-use Rattle.changes.specs.declared.Old.TheVariants as old
+use Rattle.std.proofs.Common.{Option, Result}
+use Rattle.std.specs.Prelude.{ℕ, ◌+◌, ◌≤◌, ◌<◌, Bool, false, true, List, [], ◌≡◌, drop, length, take, None, Some, Ok, Err}
+use Rattle.std.proofs.Math.Option as math
+use Rattle.std.proofs.Math.Option.{none, some}
 use Rattle.history.specs.Histories.{Call, Reading, State, clear, contains_key, create, first, first_in_range, get, get_gt, get_value, holds_index, insert, leaf_at, len, range_value, read, remove, scan_prefix}
 use Rattle.lists.specs.All.{All}
 use Rattle.lists.specs.Exact.{Exact}
 use Rattle.lists.specs.Part.{part}
-use Rattle.model.specs.Answers.{beyond, everything, inverted, leaf_answer, long_bound, meets_sizes, no_leaf, no_room}
+use Rattle.model.specs.Answers.{beyond, everything, inverted, long_bound, meets_sizes, no_leaf, no_room}
 use Rattle.model.specs.Leaves.{Node}
 use Rattle.model.specs.Limits.{key_limit, value_limit}
 use Rattle.model.specs.Map.{Pair, first_in, in_range, lookup}
@@ -18,24 +18,11 @@ use Rattle.model.specs.declared.Refusal.{Refusal}
 use Rattle.model.specs.declared.Refusal.TheVariants.{InvertedRange, LongKey, LongValue, NoLeaf, NoRoom, Shape, ShortOutput}
 use Rattle.order.specs.Bytes.{Bytes}
 use Rattle.prefixes.specs.End.{Begins, Byte, end_bytes}
-use Rattle.prefixes.specs.declared.Prefixed.{Prefixed}
-use Rattle.prefixes.specs.declared.Prefixed.TheVariants.{Made}
-use Rattle.prefixes.specs.declared.Prefixed.TheVariants as prefixed
 use Rattle.prefixes.specs.declared.Span.{Span}
-use Rattle.tree_create.specs.declared.Change.{Change}
-use Rattle.tree_create.specs.declared.Change.TheVariants.{Done}
-use Rattle.tree_create.specs.declared.Change.TheVariants as change
-use Rattle.tree_create.specs.declared.Length.{Length}
-use Rattle.tree_create.specs.declared.Length.TheVariants.{Pairs, Unmeasured}
-use Rattle.tree_get.specs.Outcomes.{ShownBy}
-use Rattle.tree_get.specs.declared.Contained.{Contained}
-use Rattle.tree_get.specs.declared.Contained.TheVariants.{No, Unasked, Yes}
+use Rattle.tree_get.specs.Outcomes as reads
 use Rattle.tree_get.specs.declared.Found.{Found}
-use Rattle.tree_get.specs.declared.Found.TheVariants as found
 use Rattle.tree_range.specs.Scans.{Allowed}
 use Rattle.tree_range.specs.Walked.{pair_seen}
-use Rattle.tree_range.specs.declared.Scan.{Scan}
-use Rattle.tree_range.specs.declared.Scan.TheVariants as scan
 use Rattle.tree_range.specs.declared.Seen.{Seen}
 
 -- a lookup is refused only where the key has over 512 bytes and, as `NotLong` stands with every other answer, wherever it has
@@ -55,29 +42,29 @@ pub record ValueLies (arena : List ℕ) (k : Bytes) (m : List Pair) (place n : �
   pub found : lookup k m ≡ some (part arena place n)
   pub inside : place + n ≤ length arena
 
-abbrev pub GetSays : (arena : List ℕ) → Bytes → List Pair → Found → Type 0
-GetSays arena k m (found.At p n) = ValueLies arena k m p.0 n × NotLong k
-GetSays arena k m found.Nothing = (lookup k m ≡ none) × NotLong k
-GetSays arena k m (found.Refused x) = TooLong k x
+abbrev pub GetSays : (arena : List ℕ) → Bytes → List Pair → Result (Option Found) Refusal → Type 0
+GetSays arena k m (Ok (Some f)) = ValueLies arena k m f.at.0 f.length × NotLong k
+GetSays arena k m (Ok None) = (lookup k m ≡ none) × NotLong k
+GetSays arena k m (Err x) = TooLong k x
 
-abbrev pub ContainsSays : Bytes → List Pair → Contained → Type 0
-ContainsSays k m Yes = (lookup k m ≡ none → ⊥) × NotLong k
-ContainsSays k m No = (lookup k m ≡ none) × NotLong k
-ContainsSays k m (Unasked x) = TooLong k x
+abbrev pub ContainsSays : Bytes → List Pair → Result Bool Refusal → Type 0
+ContainsSays k m (Ok true) = (lookup k m ≡ none → ⊥) × NotLong k
+ContainsSays k m (Ok false) = (lookup k m ≡ none) × NotLong k
+ContainsSays k m (Err x) = TooLong k x
 
 -- get_value, range_value: empty on none
-abbrev pub bytes_of : Option Bytes → Bytes
+abbrev pub bytes_of : math.Option Bytes → Bytes
 bytes_of none = []
 bytes_of (some v) = v
 
-abbrev pub value_of : Option Pair → Option Bytes
+abbrev pub value_of : math.Option Pair → math.Option Bytes
 value_of none = none
 value_of (some p) = some p.value
 
 -- len, never refused
-abbrev pub LenSays : List Pair → Length → Type 0
-LenSays m (Pairs n) = n ≡ length m
-LenSays m (Unmeasured x) = ⊥
+abbrev pub LenSays : List Pair → Result ℕ Refusal → Type 0
+LenSays m (Ok n) = n ≡ length m
+LenSays m (Err x) = ⊥
 
 -- a scan: the first pair in the range, its key at the output's front and the rest of the output as it was
 pub record PairLies (arena : List ℕ) (range : Range) (s e : Bytes) (m : List Pair) (out now_out : Bytes) (x : Seen) : Type 0 where
@@ -94,10 +81,10 @@ pub data ScanRefused (range : Range) (s e : Bytes) (m : List Pair) (out : Bytes)
   inverted_range : long_bound range.start s ≡ false → long_bound range.end e ≡ false → inverted range s e ≡ true → ScanRefused range s e m out InvertedRange
   short_key : Allowed range s e → (p : Pair) → first_in range s e m ≡ some p → length out < length p.key → ScanRefused range s e m out (ShortOutput (length p.key))
 
-abbrev pub ScanSays : (arena : List ℕ) → Range → (start end : Bytes) → List Pair → (out now_out : Bytes) → Scan → Type 0
-ScanSays arena range s e m out now_out (scan.Pair x) = PairLies arena range s e m out now_out x × Allowed range s e
-ScanSays arena range s e m out now_out scan.End = (first_in range s e m ≡ none) × ((now_out ≡ out) × Allowed range s e)
-ScanSays arena range s e m out now_out (scan.Refused x) = ScanRefused range s e m out x × (now_out ≡ out)
+abbrev pub ScanSays : (arena : List ℕ) → Range → (start end : Bytes) → List Pair → (out now_out : Bytes) → Result (Option Seen) Refusal → Type 0
+ScanSays arena range s e m out now_out (Ok (Some x)) = PairLies arena range s e m out now_out x × Allowed range s e
+ScanSays arena range s e m out now_out (Ok None) = (first_in range s e m ≡ none) × ((now_out ≡ out) × Allowed range s e)
+ScanSays arena range s e m out now_out (Err x) = ScanRefused range s e m out x × (now_out ≡ out)
 
 -- empty where the scan would be refused as 3 or 6
 pub record RangeValueSays (range : Range) (s e : Bytes) (m : List Pair) (v : Bytes) : Type 0 where
@@ -120,9 +107,9 @@ pub data PrefixRefused (p out : Bytes) : Refusal → Type 0 where
   long_prefix : key_limit < length p → PrefixRefused p out LongKey
   short_end : NotLong p → (e : Bytes) → prefix_end p ≡ some e → length out < length e → PrefixRefused p out (ShortOutput (length e))
 
-abbrev pub PrefixSays : (p out now_out : Bytes) → Prefixed → Type 0
-PrefixSays p out now_out (Made x) = PrefixLies p out now_out x
-PrefixSays p out now_out (prefixed.Refused x) = PrefixRefused p out x × (now_out ≡ out)
+abbrev pub PrefixSays : (p out now_out : Bytes) → Result Span Refusal → Type 0
+PrefixSays p out now_out (Ok x) = PrefixLies p out now_out x
+PrefixSays p out now_out (Err x) = PrefixRefused p out x × (now_out ≡ out)
 
 -- the old value at the output's front and the rest of the output as it was
 pub record OldLies (k : Bytes) (m : List Pair) (out now_out : Bytes) (n : ℕ) : Type 0 where
@@ -132,10 +119,10 @@ pub record OldLies (k : Bytes) (m : List Pair) (out now_out : Bytes) (n : ℕ) :
   pub same_length : length now_out ≡ length out
 
 -- that, or none and the whole output as it was, both only where `may` holds; or a refusal for one of the reasons that `why` allows
-abbrev pub OldSays : Bytes → List Pair → (out now_out : Bytes) → (may : Type 0) → (why : Refusal → Type 0) → Old → Type 0
-OldSays k m out now_out may why (old.Value n) = OldLies k m out now_out n × may
-OldSays k m out now_out may why old.Nothing = (lookup k m ≡ none) × ((now_out ≡ out) × may)
-OldSays k m out now_out may why (old.Refused x) = why x × (now_out ≡ out)
+abbrev pub OldSays : Bytes → List Pair → (out now_out : Bytes) → (may : Type 0) → (why : Refusal → Type 0) → Result (Option ℕ) Refusal → Type 0
+OldSays k m out now_out may why (Ok (Some n)) = OldLies k m out now_out n × may
+OldSays k m out now_out may why (Ok None) = (lookup k m ≡ none) × ((now_out ≡ out) × may)
+OldSays k m out now_out may why (Err x) = why x × (now_out ≡ out)
 
 -- an old value fits the output
 abbrev pub OldFits : Bytes → List Pair → (out : Bytes) → Type 0
@@ -160,9 +147,9 @@ pub record MayInsert (fanout pool arena : ℕ) (k v : Bytes) (ns : List Node) : 
   pub room : no_room fanout arena k v ns ≡ false
 
 -- create, refused exactly where the sizes are not met
-abbrev pub CreateSays : (fanout pool slots arena : ℕ) → Change → Type 0
-CreateSays fanout pool slots arena Done = meets_sizes fanout pool slots arena ≡ true
-CreateSays fanout pool slots arena (change.Refused x) = (x ≡ Shape) × (meets_sizes fanout pool slots arena ≡ false)
+abbrev pub CreateSays : (fanout pool slots arena : ℕ) → Result (Unit {0}) Refusal → Type 0
+CreateSays fanout pool slots arena (Ok u) = meets_sizes fanout pool slots arena ≡ true
+CreateSays fanout pool slots arena (Err x) = (x ≡ Shape) × (meets_sizes fanout pool slots arena ≡ false)
 
 -- each reading call
 abbrev pub ReadSays : {s : State} → Reading s → List Node → List Pair → Type 0
@@ -171,7 +158,7 @@ ReadSays (len r o) ns m = LenSays m r
 ReadSays {s} (get k r o) ns m = GetSays s.arena k m r
 ReadSays (get_value k r o) ns m = r ≡ bytes_of (lookup k m)
 ReadSays (contains_key k r o) ns m = ContainsSays k m r
-ReadSays {s} (leaf_at place r o) ns m = ShownBy s.header s.dir s.slots s.arena place (leaf_answer place ns) r
+ReadSays {s} (leaf_at place r o) ns m = reads.Shows s.header s.dir s.slots s.arena place ns r
 ReadSays {s} (first_in_range range start end out now_out r o) ns m = ScanSays s.arena range start end m out now_out r
 ReadSays (range_value range start end r o) ns m = RangeValueSays range start end m r
 ReadSays {s} (get_gt k out now_out r o) ns m = ScanSays s.arena beyond k [] m out now_out r
@@ -185,5 +172,5 @@ Says {s} (insert k v out r after o) ns m =
     OldSays k m out after.out (MayInsert s.header.fanout (length s.dir) (length s.arena) k v ns)
     (InsertRefused s.header.fanout (length s.dir) (length s.arena) k v ns m out) r.old
 Says (remove k out r after o) ns m = OldSays k m out after.out (NotLong k) (OldRefused k m out (NotLong k)) r.old
-Says (clear now_dir now_slots r o) ns m = r.answer ≡ Done
+Says (clear now_dir now_slots r o) ns m = r.answer ≡ Ok tt
 Says {s} (create fanout now_dir now_slots r o) ns m = CreateSays fanout (length s.dir) (length s.slots) (length s.arena) r.answer

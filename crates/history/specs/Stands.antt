@@ -1,11 +1,11 @@
 -- After any history the buffers hold an index: a leaf list whose pairs are the ordered map's, and that the leaf rules made from the fresh one.
 -- Assumes nothing.
-use Rattle.std.specs.Prelude.{◌≤◌, ℕ, not, true, List, [], ◌≡◌, refl, length}
-use Rattle.std.proofs.Math.Option.{Option, none, some}
-use Rattle.std.proofs.Common.{◌∙◌, ap, subst, sym, arith}
+use Rattle.std.specs.Prelude.{◌≤◌, ℕ, not, true, List, [], ◌≡◌, refl, length, Ok}
+use Rattle.std.proofs.Math.Option as math
+use Rattle.std.proofs.Math.Option.{none, some}
+use Rattle.std.proofs.Common.{Option, Result, ◌∙◌, ap, subst, sym}
 use Rattle.changes.specs.Outcomes.{ChangedBy, Lent, old_told}
 use Rattle.changes.specs.declared.Changed.{Changed}
-use Rattle.changes.specs.declared.Old.{Old}
 use Rattle.history.specs.Histories.{History, State, Within, begin, clear, create, found, handed, if_not_done, if_refused, insert, leaves_of, lending, map_of, on, read, remove, state}
 use Rattle.layout.specs.Entry.{Entry}
 use Rattle.layout.proofs.Examples.{fresh_good}
@@ -22,13 +22,12 @@ use Rattle.model.proofs.PairLaws.{insert_pairs, remove_pairs}
 use Rattle.model.specs.PassedLaws.{passed_if, same_accepted}
 use Rattle.model.specs.Rules.{fresh, insert_rule, remove_rule}
 use Rattle.model.specs.Reached.{Reached, created, inserted, removed}
+use Rattle.model.specs.declared.Refusal.{Refusal}
 use Rattle.model.specs.declared.Refusal.TheVariants.{Shape}
 use Rattle.order.specs.Bytes.{Bytes}
 use Rattle.tree_create.specs.Coincide.{freshened_w}
 use Rattle.tree_create.specs.Outcomes.{ClearOutcome, FreshBy, Freshened}
 use Rattle.tree_create.specs.declared.Answered.{Answered}
-use Rattle.tree_create.specs.declared.Change.{Change}
-use Rattle.tree_create.specs.declared.Change.TheVariants.{Done}
 use Rattle.tree_insert.specs.Kept.{insert_keeps_w}
 use Rattle.tree_insert.specs.Outcomes.{InsertBy, InsertOutcome}
 use Rattle.tree_insert.specs.PassedLaws.{passed}
@@ -57,11 +56,11 @@ state_path s t h d l a = λ i. record { header = h i; dir = d i; slots = l i; ar
 
 -- an accepted one leaves the list that its rule gives
 
-told : {A : Type 0} (o : Option Bytes) (a b : A) → if_refused (old_told o) a b ≡ b
+told : {A : Type 0} (o : math.Option Bytes) (a b : A) → if_refused (old_told o) a b ≡ b
 told none a b = refl
 told (some v) a b = refl
 
-told_type : (o : Option Bytes) (a b : Type 0) → if_refused (old_told o) a b → b
+told_type : (o : math.Option Bytes) (a b : Type 0) → if_refused (old_told o) a b → b
 told_type none a b x = x
 told_type (some v) a b x = x
 
@@ -82,7 +81,7 @@ module _ {s : State} {ns : List Node} {m : List Pair} {within : (kmost vmost : �
 
   -- insert
 
-  abbrev InsertLeft : State → (k v : Bytes) → Old → Type 0
+  abbrev InsertLeft : State → (k v : Bytes) → Result (Option ℕ) Refusal → Type 0
   InsertLeft t k v o =
       Stands t (if_refused o ns (insert_rule F k v ns)) (if_refused o m (map.put k v m))
       (λ kmost vmost. if_refused o (within kmost vmost) (((length k ≤ kmost) × (length v ≤ vmost)) × within kmost vmost))
@@ -109,7 +108,7 @@ module _ {s : State} {ns : List Node} {m : List Pair} {within : (kmost vmost : �
 
   -- remove
 
-  abbrev RemoveLeft : State → (k : Bytes) → Old → Type 0
+  abbrev RemoveLeft : State → (k : Bytes) → Result (Option ℕ) Refusal → Type 0
   RemoveLeft t k o = Stands t (if_refused o ns (remove_rule true k ns)) (if_refused o m (map.remove k m)) within
 
   module _ (k out : Bytes) (r : Changed) (after : Lent) (o : RemoveOutcome s.header k (lending s out) r after) where
@@ -130,7 +129,7 @@ module _ {s : State} {ns : List Node} {m : List Pair} {within : (kmost vmost : �
 
   -- clear, and a creation in the same buffers
 
-  abbrev FreshLeft : State → Change → Type 0
+  abbrev FreshLeft : State → Result (Unit {0}) Refusal → Type 0
   FreshLeft t a = Stands t (if_not_done a ns fresh) (if_not_done a m []) (λ kmost vmost. if_not_done a (within kmost vmost) (Unit {0}))
 
   clear_stands : (dir slots : List ℕ) (r : Answered) → ClearOutcome s.header s.dir s.slots s.arena dir slots r → FreshLeft (state r.header dir slots s.arena) r.answer
@@ -142,18 +141,18 @@ module _ {s : State} {ns : List Node} {m : List Pair} {within : (kmost vmost : �
     create_by : (a : Answer (List Node)) → create_answer fanout (length s.dir) (length s.slots) (length s.arena) ≡ a
         → FreshBy a fanout (header 0 0 0 0) s.dir s.slots s.arena dir slots r → FreshLeft (state (if_not_done r.answer s.header r.header) dir slots s.arena) r.answer
     create_by (refused y) e b =
-        subst (λ (a : Change). FreshLeft (state (if_not_done a s.header r.header) dir slots s.arena) a) (sym b.answer_is)
+        subst (λ (a : Result (Unit {0}) Refusal). FreshLeft (state (if_not_done a s.header r.header) dir slots s.arena) a) (sym b.answer_is)
         (subst (λ (t : State). Stands t ns m within) (sym (state_path (state s.header dir slots s.arena) s refl b.dir_is b.slots_are refl)) x)
     create_by (accepted ms) e b =
         let q : fresh ≡ ms = created_fresh fanout s.dir s.slots s.arena e in
-        subst (λ (a : Change). FreshLeft (state (if_not_done a s.header r.header) dir slots s.arena) a) (sym b.answer_is)
+        subst (λ (a : Result (Unit {0}) Refusal). FreshLeft (state (if_not_done a s.header r.header) dir slots s.arena) a) (sym b.answer_is)
         (fresh_stands (subst (λ (l : List Node). Freshened fanout s.dir s.slots s.arena dir slots l r) (sym q) b))
 
 -- all together
 
 begun : (fanout : ℕ) (dir slots arena now_dir now_slots : List ℕ) (r : Answered) (a : Answer (List Node)) → create_answer fanout (length dir) (length slots) (length arena) ≡ a
-    → FreshBy a fanout (header 0 0 0 0) dir slots arena now_dir now_slots r → r.answer ≡ Done → Stands (state r.header now_dir now_slots arena) fresh [] (λ kmost vmost. Unit {0})
-begun fanout dir slots arena now_dir now_slots r (refused y) e b d = absurd (let z : ◌≡◌ {A = ℕ} 0 1 = ap (λ (c : Change). if_not_done c 0 1) (sym b.answer_is ∙ d) in omega (arith, z))
+    → FreshBy a fanout (header 0 0 0 0) dir slots arena now_dir now_slots r → r.answer ≡ Ok tt → Stands (state r.header now_dir now_slots arena) fresh [] (λ kmost vmost. Unit {0})
+begun fanout dir slots arena now_dir now_slots r (refused y) e b d = cc (b.answer_is, d)
 begun fanout dir slots arena now_dir now_slots r (accepted ms) e b d =
     fresh_stands (subst (λ (l : List Node). Freshened fanout dir slots arena now_dir now_slots l r) (sym (created_fresh fanout dir slots arena e)) b)
 

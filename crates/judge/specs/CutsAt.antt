@@ -2,13 +2,11 @@
 -- length is one more than `cut_common`, and L4's offset goes by the low key's length.
 -- Assumes nothing.
 use Prim.Native.Nat.{◌-◌, ◌<◌, ◌≤◌, suc, zero, ℕ}
-use Rattle.std.specs.Prelude.{List, [], ◌++◌, ◌∷◌, ◌≡◌, refl, drop, get_or, length, take}
-use Rattle.std.proofs.Common.{◌∙◌, subst, sym, arith, le-ltb, lt-ltb}
+use Rattle.std.specs.Prelude.{List, [], ◌++◌, ◌∷◌, ◌≡◌, refl, drop, get_or, length, take, Some, None}
+use Rattle.std.proofs.Common.{◌∙◌, subst, sym, arith, le-ltb, lt-ltb, Option}
 use Rattle.std.proofs.Math.Path.{ap}
 use Rattle.std.proofs.Math.Decide.{dec_lt}
 use Rattle.leaf.specs.Keys.{upper_at}
-use Rattle.leaf.specs.declared.Upper.{Upper}
-use Rattle.leaf.specs.declared.Upper.TheVariants.{At, Nothing}
 use Rattle.model.specs.CutLaws.{Cut, cut_order}
 use Rattle.model.specs.Map.{Pair, Rising, pair, put}
 use Rattle.model.specs.MapLaws.{rising_put}
@@ -19,6 +17,7 @@ use Rattle.order.specs.Bytes.{Bytes, common}
 use Rattle.order.specs.CommonLaws.{common_comm}
 use Rattle.order.proofs.SeparatorLaws.{length-separator}
 use Rattle.judge.specs.Judges.{cut_common, key_in, offset_by}
+use Rattle.words.specs.declared.LowKey.{LowKey}
 
 -- a list with one element put in before place i
 
@@ -103,9 +102,9 @@ module _ (k v : Bytes) (m : List Pair) (i : ℕ) (e : place k m ≡ gap i) where
       ∙ ap suc (rw (last_at (put k v m) a (omega (arith, c.right)), first_at (put k v m) (suc a)) (beside a))
 
 -- L4 by the low key's length
-pub offset_is : (arena : List ℕ) (n l : ℕ) (low : Bytes) (upper : Upper) → l ≡ length low → offset_by n l upper ≡ split_offset n low (upper_at arena upper)
+pub offset_is : (arena : List ℕ) (n l : ℕ) (low : Bytes) (upper : Option LowKey) → l ≡ length low → offset_by n l upper ≡ split_offset n low (upper_at arena upper)
 offset_is arena n zero [] upper e = refl
 offset_is arena n zero (x ∷ low) upper e = absurd (omega arith)
 offset_is arena n (suc l) [] upper e = absurd (omega arith)
-offset_is arena n (suc l) (x ∷ low) Nothing e = refl
-offset_is arena n (suc l) (x ∷ low) (At u) e = refl
+offset_is arena n (suc l) (x ∷ low) None e = refl
+offset_is arena n (suc l) (x ∷ low) (Some u) e = refl

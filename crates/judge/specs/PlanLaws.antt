@@ -4,8 +4,9 @@ use Rattle.std.specs.Prelude.{◌+◌, ◌-◌, ◌^◌, ◌<◌, ◌≤◌, suc
 use Rattle.std.proofs.Common.{◌∙◌, ap, subst, sym, arith, le-leb, le-ltb, lt-ltb}
 use Rattle.std.proofs.Math.Decide.{dec_lt}
 use Rattle.std.proofs.lemmas.Bool.{lt-leb}
-use Rattle.layout.specs.Presumed.{Inner, Presumed}
-use Rattle.layout.specs.declared.Header.{Header}
+use Rattle.layout.specs.Presumed.{Presumed}
+use Rattle.layout.specs.Viewed.{leaves_of}
+use Rattle.layout.specs.declared.lent.View.{View}
 use Rattle.lists.specs.All.{all_at}
 use Rattle.model.specs.CutLaws.{Cut, offset_cut}
 use Rattle.model.specs.Good.{Within, limits}
@@ -24,6 +25,7 @@ use Rattle.route.specs.Routes.{leaf_at, upper_of}
 use Rattle.spots.specs.declared.Spot.{Spot}
 use Rattle.judge.specs.CutsAt.{cut_length, gap_within}
 use Rattle.judge.specs.Judges.{CommonAsked, GapAsked, OffsetAsked, PlanIs, cut_common, cut_of, key_in, offset_at, right_of, slot_of}
+use Rattle.judge.specs.declared.Half.TheVariants.{Left, Right}
 use Rattle.judge.specs.declared.Plan.{Plan}
 
 -- one of the two keys at the cut is the stored one in front of it
@@ -58,98 +60,94 @@ module _ (i s : ℕ) {o : ℕ} (e : s ≡ o) where
   right_side : s ≤ i → true ≡ right_of i o
   right_side h = subst (λ (o : ℕ). true ≡ right_of i o) e (sym (le-leb s i h))
 
-module _ {h : Header} {dir slots arena : List ℕ} {k : Bytes} {t : Spot} (g : GapAsked h dir slots arena k t) where
-  gap_in : t.leaf < h.leaves
-  gap_in = (routed g.index.presumed k (g.gap_spot g.index.nodes g.index.presumed).owns).within
+module _ {v : View} {k : Bytes} {t : Spot} (g : GapAsked v k t) where
+  abbrev ns : List Node
+  ns = leaves_of v
 
-  pub offset_asked : OffsetAsked h dir slots t.leaf
+  abbrev x : Presumed v.header v.dir.now v.slots.now v.arena.now (leaves_of v)
+  x = v.index.presumed
+
+  abbrev m : List Pair
+  m = (leaf_at (leaves_of v) t.leaf).pairs
+
+  pub gap_in : t.leaf < v.header.leaves
+  gap_in = (routed x k g.gap_spot.owns).within
+
+  pub offset_asked : OffsetAsked v.header v.dir.now v.slots.now t.leaf
   offset_asked = record {
-    directed = directed g.index.presumed;
+    directed = directed x;
     leaf_in = gap_in;
-    fanout_two = omega (arith, fanout_three g.index.presumed.holds.sizes.fanout_enough);
+    fanout_two = omega (arith, fanout_three x.holds.sizes.fanout_enough);
   }
 
-  module _ {ns : List Node} (x : Presumed h dir slots arena ns) where
-    abbrev m : List Pair
-    m = (leaf_at ns t.leaf).pairs
+  counted : suc (length m) ≡ v.header.fanout
+  counted = omega (arith, g.full, (leaf_lays x t.leaf gap_in).count_is)
 
-    counted : suc (length m) ≡ h.fanout
-    counted = omega (arith, g.full, (leaf_lays x t.leaf gap_in).count_is)
+  put_full : (w : Bytes) → length (put k w m) ≡ v.header.fanout
+  put_full w =
+      let l = gap_lookup k m t.slot g.gap_spot.stands in
+      let e = rw l at (length-put k w m) in
+      omega (arith, e, counted)
 
-    put_full : (v : Bytes) → length (put k v m) ≡ h.fanout
-    put_full v =
-        let l = gap_lookup k m t.slot (g.gap_spot ns x).stands in
-        let e = rw l at (length-put k v m) in
-        omega (arith, e, counted)
+  plan_cut : (w : Bytes) → Cut (offset_at v.header.fanout ns t.leaf) (put k w m)
+  plan_cut w =
+      subst (λ (n : ℕ). Cut (split_offset n (leaf_at ns t.leaf).low (upper_of ns t.leaf)) (put k w m)) (put_full w)
+      (offset_cut (leaf_at ns t.leaf).low (upper_of ns t.leaf) (put k w m) (omega (arith, put_full w, fanout_three x.holds.sizes.fanout_enough)))
 
-    plan_cut : (v : Bytes) → Cut (offset_at h.fanout ns t.leaf) (put k v m)
-    plan_cut v =
-        subst (λ (n : ℕ). Cut (split_offset n (leaf_at ns t.leaf).low (upper_of ns t.leaf)) (put k v m)) (put_full v)
-        (offset_cut (leaf_at ns t.leaf).low (upper_of ns t.leaf) (put k v m) (omega (arith, put_full v, fanout_three x.holds.sizes.fanout_enough)))
+  cut_inside : (s : ℕ) → s ≡ offset_at v.header.fanout ns t.leaf → (0 < s) × (s ≤ length m)
+  cut_inside s e =
+      let c = plan_cut [] in
+      (omega (arith, e, c.left), omega (arith, e, c.right, put_full [], counted))
 
-    cut_inside : (s : ℕ) → s ≡ offset_at h.fanout ns t.leaf → (0 < s) × (s ≤ length m)
-    cut_inside s e =
-        let c = plan_cut [] in
-        (omega (arith, e, c.left), omega (arith, e, c.right, put_full [], counted))
+  key_short : (s : ℕ) → s ≡ offset_at v.header.fanout ns t.leaf → cut_common k m t.slot s ≤ key_limit
+  key_short s e =
+      let c = cut_inside s e in
+      let w = all_at (Within (limits v.header.fanout)) m (s - 1) (pair [] []) (omega (arith, c)) (tiled_at ns t.leaf x.tiles.tiled (place_in x gap_in)).within in
+      omega (arith, w.0, common_short k m t.slot s)
 
-    key_short : (s : ℕ) → s ≡ offset_at h.fanout ns t.leaf → cut_common k m t.slot s ≤ key_limit
-    key_short s e =
-        let c = cut_inside s e in
-        let w = all_at (Within (limits h.fanout)) m (s - 1) (pair [] []) (omega (arith, c)) (tiled_at ns t.leaf x.tiles.tiled (place_in x gap_in)).within in
-        omega (arith, w.0, common_short k m t.slot s)
-
-    separator_is : (s c : ℕ) → s ≡ offset_at h.fanout ns t.leaf → c ≡ cut_common k m t.slot s
-        → (v : Bytes) → c + 1 ≡ length (cut_key (offset_at h.fanout ns t.leaf) (put k v m))
-    separator_is s c e f v =
-        let q = cut_length k v m t.slot (g.gap_spot ns x).stands (tiled_at ns t.leaf x.tiles.tiled (place_in x gap_in)).rises (offset_at h.fanout ns t.leaf) (plan_cut v) in
-        omega (arith, f ∙ ap (cut_common k m t.slot) e, q)
+  separator_is : (s c : ℕ) → s ≡ offset_at v.header.fanout ns t.leaf → c ≡ cut_common k m t.slot s
+      → (w : Bytes) → c + 1 ≡ length (cut_key (offset_at v.header.fanout ns t.leaf) (put k w m))
+  separator_is s c e f w =
+      let q = cut_length k w m t.slot g.gap_spot.stands (tiled_at ns t.leaf x.tiles.tiled (place_in x gap_in)).rises (offset_at v.header.fanout ns t.leaf) (plan_cut w) in
+      omega (arith, f ∙ ap (cut_common k m t.slot) e, q)
 
   -- a separator is no longer than the longest key and one byte
-  pub plan_fits : {p : Plan} → Inner h dir slots arena (λ ns. PlanIs h.fanout k ns t p) → p.separator < 2 ^ 13
+  pub plan_fits : {p : Plan} → PlanIs v.header.fanout k ns t p → p.separator < 2 ^ 13
   plan_fits i =
-      let x = g.index.presumed in
-      let ns = g.index.nodes in
-      let s = offset_at h.fanout ns t.leaf in
-      let c = cut_common k (leaf_at ns t.leaf).pairs t.slot s in
-      omega (arith, (i ns x).separator_is [], separator_is x s c refl refl [], key_short x s refl, key_limit_fits)
+      let s = offset_at v.header.fanout ns t.leaf in
+      omega (arith, i.separator_is [], separator_is s (cut_common k m t.slot s) refl refl [], key_short s refl, key_limit_fits)
 
-  module _ {s : ℕ} (e : (a : List ℕ) → Inner h dir slots a (λ ns. s ≡ split_offset h.fanout (leaf_at ns t.leaf).low (upper_of ns t.leaf))) where
-    pub common_asked : CommonAsked h dir slots arena k t s
+  module _ {s : ℕ} (e : s ≡ offset_at v.header.fanout ns t.leaf) where
+    pub common_asked : CommonAsked v k t s
     common_asked =
-        let x = g.index.presumed in
-        let ns = g.index.nodes in
-        let c = cut_inside x s (e arena ns x) in
+        let c = cut_inside s e in
         let l = (leaf_lays x t.leaf gap_in).count_is in
         record {
-          index = g.index;
           leaf_in = gap_in;
-          owns = λ ns x. (g.gap_spot ns x).owns;
-          slot_upto = omega (arith, l, gap_within k [] (leaf_at ns t.leaf).pairs t.slot (g.gap_spot ns x).stands);
+          owns = g.gap_spot.owns;
+          slot_upto = omega (arith, l, gap_within k [] m t.slot g.gap_spot.stands);
           cut_left = c.0;
           cut_right = omega (arith, c.1, l);
         }
 
-    module _ {c : ℕ} (f : Inner h dir slots arena (λ ns. c ≡ cut_common k (leaf_at ns t.leaf).pairs t.slot s)) where
+    module _ {c : ℕ} (f : c ≡ cut_common k m t.slot s) where
       pub separator_fits : c + 1 < 2 ^ 32
-      separator_fits =
-          let x = g.index.presumed in
-          let ns = g.index.nodes in
-          omega (arith, f ns x, key_short x s (e arena ns x), key_limit_fits)
+      separator_fits = omega (arith, f, key_short s e, key_limit_fits)
 
-      pub plan_left : t.slot < s → Inner h dir slots arena (λ ns. PlanIs h.fanout k ns t (record { leaf = t.leaf; cut = s - 1; separator = c + 1; right = false; slot = t.slot }))
-      plan_left l = λ ns x. record {
-        leaf_is = λ i. t.leaf;
-        cut_is = left_cut t.slot s (e arena ns x) l;
-        separator_is = separator_is x s c (e arena ns x) (f ns x);
-        right_is = left_side t.slot s (e arena ns x) l;
-        slot_is = left_slot t.slot s (e arena ns x) l;
+      pub plan_left : t.slot < s → PlanIs v.header.fanout k ns t (record { leaf = t.leaf; cut = s - 1; separator = c + 1; half = Left t.slot })
+      plan_left l = record {
+        leaf_is = refl;
+        cut_is = left_cut t.slot s e l;
+        separator_is = separator_is s c e f;
+        right_is = left_side t.slot s e l;
+        slot_is = left_slot t.slot s e l;
       }
 
-      pub plan_right : s ≤ t.slot → Inner h dir slots arena (λ ns. PlanIs h.fanout k ns t (record { leaf = t.leaf; cut = s; separator = c + 1; right = true; slot = t.slot - s }))
-      plan_right l = λ ns x. record {
-        leaf_is = λ i. t.leaf;
-        cut_is = right_cut t.slot s (e arena ns x) l;
-        separator_is = separator_is x s c (e arena ns x) (f ns x);
-        right_is = right_side t.slot s (e arena ns x) l;
-        slot_is = right_slot t.slot s (e arena ns x) l;
+      pub plan_right : s ≤ t.slot → PlanIs v.header.fanout k ns t (record { leaf = t.leaf; cut = s; separator = c + 1; half = Right (t.slot - s) })
+      plan_right l = record {
+        leaf_is = refl;
+        cut_is = right_cut t.slot s e l;
+        separator_is = separator_is s c e f;
+        right_is = right_side t.slot s e l;
+        slot_is = right_slot t.slot s e l;
       }

@@ -23,24 +23,24 @@ use Rattle.route.specs.Routes.{leaf_at, upper_of}
 use Rattle.spots.specs.declared.Spot.{Spot}
 use Rattle.judge.specs.AnswerLaws.{full_charge, new_count}
 use Rattle.spots.specs.KeySpots.{InGap}
-use Rattle.judge.specs.Judges.{PlanIs, Splits, cut_of, key_in, offset_at, slot_of}
+use Rattle.judge.specs.Judges.{PlanIs, Splits, cut_of, half_slot, key_in, offset_at, right_half, slot_of}
 use Rattle.judge.specs.PlanSplits.{Passed, accepts_passed, left_place, plan_splits, right_key_new, right_key_stored, right_place, separator_bytes}
 use Rattle.judge.specs.declared.Plan.{Plan}
 
 -- the new pair goes left
 
 pub record GoesLeft (k : Bytes) (m : List Pair) (s : Bytes) (p : Plan) : Type 0 where
-  pub stands : place k (take p.cut m) ≡ gap p.slot
+  pub stands : place k (take p.cut m) ≡ gap (half_slot p.half)
   pub below : k ≺ s
   pub bytes : s ≡ take p.separator (key_in m p.cut)
 
 -- it goes right; as the smallest there it gives the separator's bytes
 
 pub record GoesRight (k : Bytes) (m : List Pair) (s : Bytes) (p : Plan) : Type 0 where
-  pub stands : place k (drop p.cut m) ≡ gap p.slot
+  pub stands : place k (drop p.cut m) ≡ gap (half_slot p.half)
   pub from : s ≼ k
-  pub new_bytes : p.slot ≡ 0 → s ≡ take p.separator k
-  pub bytes : (p.slot ≡ 0 → ⊥) → s ≡ take p.separator (key_in m p.cut)
+  pub new_bytes : half_slot p.half ≡ 0 → s ≡ take p.separator k
+  pub bytes : (half_slot p.half ≡ 0 → ⊥) → s ≡ take p.separator (key_in m p.cut)
 
 pub record Planned (h : Header) (pool arena : ℕ) (k v : Bytes) (ns : List Node) (p : Plan) : Type 0 where
   pub owns : p.leaf ≡ owner k ns
@@ -48,8 +48,8 @@ pub record Planned (h : Header) (pool arena : ℕ) (k v : Bytes) (ns : List Node
   pub long : length separator ≡ p.separator
   pub rule : insert_rule h.fanout k v ns
       ≡ take p.leaf ns ++ (at_owner (put_here k v) k (cut_stored (lowest_free ns) separator p.cut (leaf_at ns p.leaf)) ++ drop (suc p.leaf) ns)
-  pub left : p.right ≡ false → GoesLeft k (leaf_at ns p.leaf).pairs separator p
-  pub right : p.right ≡ true → GoesRight k (leaf_at ns p.leaf).pairs separator p
+  pub left : right_half p.half ≡ false → GoesLeft k (leaf_at ns p.leaf).pairs separator p
+  pub right : right_half p.half ≡ true → GoesRight k (leaf_at ns p.leaf).pairs separator p
   pub cut_in : p.cut ≤ length (leaf_at ns p.leaf).pairs
   pub leaf_free : h.leaves < pool
   pub room : h.charge + length k + length v + p.separator ≤ arena
@@ -100,7 +100,7 @@ module _ {h : Header} {dir slots arena : List ℕ} {ns : List Node} (x : Presume
         bytes_of (key_in (pairs_at ns t) p.cut)
         (right_key_stored k v (pairs_at ns t) t.slot g.stands (cut_at h ns t) cut.left n ∙ ap (key_in (pairs_at ns t)) (sym i.cut_is))
 
-    goes_left : p.right ≡ false → GoesLeft k (pairs_at ns t) (cut_key (cut_at h ns t) (put k v (pairs_at ns t))) p
+    goes_left : right_half p.half ≡ false → GoesLeft k (pairs_at ns t) (cut_key (cut_at h ns t) (put k v (pairs_at ns t))) p
     goes_left e =
         let l : t.slot < cut_at h ns t = leb-false (cut_at h ns t) t.slot (sym i.right_is ∙ e) in
         record {
@@ -109,11 +109,11 @@ module _ {h : Header} {dir slots arena : List ℕ} {ns : List Node} (x : Presume
           bytes = stored_bytes (λ q. omega (arith, q, l));
         }
 
-    goes_right : p.right ≡ true → GoesRight k (pairs_at ns t) (cut_key (cut_at h ns t) (put k v (pairs_at ns t))) p
+    goes_right : right_half p.half ≡ true → GoesRight k (pairs_at ns t) (cut_key (cut_at h ns t) (put k v (pairs_at ns t))) p
     goes_right e =
         let l : cut_at h ns t ≤ t.slot = leb-true (cut_at h ns t) t.slot (sym i.right_is ∙ e) in
         let u : slot_of t.slot (cut_at h ns t) ≡ t.slot - cut_at h ns t = rw (le-ltb t.slot (cut_at h ns t) l) in
-        let q : p.slot ≡ t.slot - cut_at h ns t = i.slot_is ∙ u in
+        let q : half_slot p.half ≡ t.slot - cut_at h ns t = i.slot_is ∙ u in
         record {
           stands = ap (λ (c : ℕ). place k (drop c (pairs_at ns t))) i.cut_is ∙ right_place k (pairs_at ns t) t.slot (cut_at h ns t) g.stands l ∙ ap gap (sym i.slot_is);
           from = (split_right k v (pairs_at ns t) t.slot (cut_at h ns t) g.stands rises cut l).1.1;
@@ -138,8 +138,8 @@ module _ {h : Header} {dir slots arena : List ℕ} {ns : List Node} (x : Presume
           separator = y;
           long = sym (i.separator_is v);
           rule = subst (λ (q : ℕ). insert_rule h.fanout k v ns ≡ take q ns ++ (at_owner (put_here k v) k (cut_stored (lowest_free ns) y p.cut (leaf_at ns q)) ++ drop (suc q) ns)) (sym i.leaf_is) plan_rule;
-          left = subst (λ (q : ℕ). p.right ≡ false → GoesLeft k (leaf_at ns q).pairs y p) (sym i.leaf_is) goes_left;
-          right = subst (λ (q : ℕ). p.right ≡ true → GoesRight k (leaf_at ns q).pairs y p) (sym i.leaf_is) goes_right;
+          left = subst (λ (q : ℕ). right_half p.half ≡ false → GoesLeft k (leaf_at ns q).pairs y p) (sym i.leaf_is) goes_left;
+          right = subst (λ (q : ℕ). right_half p.half ≡ true → GoesRight k (leaf_at ns q).pairs y p) (sym i.leaf_is) goes_right;
           cut_in = subst (λ (q : ℕ). p.cut ≤ length (leaf_at ns q).pairs) (sym i.leaf_is) stays_in;
           leaf_free = free a.leaf_free;
           room = omega (arith, i.separator_is v, full_charge x k v g.owns (gap_lookup k (pairs_at ns t) t.slot g.stands) f, a.room);

@@ -20,3 +20,5 @@ pub mod Presumed
 pub mod Places
 pub mod Pieces
 pub mod Steps
+pub mod IndexProp
+pub mod Viewed

@@ -1,8 +1,15 @@
 -- The steps of the search in a leaf, over plain lists and numbers.
 -- Assumes nothing.
+use Rattle.std.specs.Prelude.{Ok, Err, Some, Bool, false}
+use Rattle.std.specs.Ordering.{is_le, nat_cmp}
+use Rattle.std.specs.Range.{range_inclusive_contains}
+use Rattle.std.specs.declared.ops.RangeInclusive.{RangeInclusive}
+use Rattle.std.proofs.lemmas.Cmp.{by_ranked, ranked}
+use Rattle.std.proofs.lemmas.Map.Keys.{le_from_is_le}
+use Rattle.lists.specs.Exact.{Exact, exact_and}
 use Prim.Native.Nat.{ℕ, ◌+◌, ◌-◌, ◌≤◌, ◌<◌}
 use mathlib.Core.List.{List, []}
-use mathlib.Core.Path.{◌≡◌, ◌∙◌, ap, sym}
+use mathlib.Core.Path.{◌≡◌, ◌∙◌, ap, refl, sym}
 use native.Mathlib.Numerals.{add-one}
 use native.Mathlib.Omega.{arith}
 use lib.ListN.{get_or-map, drop, get_or, length, length-map, take}
@@ -12,8 +19,8 @@ use Rattle.lists.proofs.PartLaws.{get_or-part, length-part}
 use Rattle.lists.specs.Part.{part}
 use Rattle.order.specs.Bytes.{Bytes}
 use Rattle.order.specs.Compared.{Compared, compared_equal, compared_greater, compared_less}
-use Rattle.order.specs.declared.Ordering.{Ordering}
-use Rattle.order.specs.declared.Ordering.TheVariants.{Less, Equal, Greater}
+use Rattle.std.specs.declared.cmp.Ordering.{Ordering}
+use Rattle.std.specs.declared.cmp.Ordering.TheVariants.{Less, Equal, Greater}
 use Rattle.words.specs.Words.{Unpacked, first_slot}
 use Rattle.words.specs.declared.Slot.{Slot}
 use Rattle.model.specs.Map.{Below, Pair}
@@ -22,8 +29,19 @@ use Rattle.model.specs.Place.Place.{at, gap}
 use Rattle.layout.specs.Buffers.{pair_at, suffix_at}
 use Rattle.layout.specs.LaysParts.{WordInside}
 use Rattle.leaf.specs.Finds.{Suffixes, find_told, leaf_slots, suffixes_of}
-use Rattle.leaf.specs.declared.Find.TheVariants.{At, Gap}
 use Rattle.leaf.specs.declared.Leaf.{Leaf}
+
+-- fanout_met: what `contains` tells of `a..=b`
+
+is_le_exact : (a b : ℕ) → Exact (is_le (nat_cmp a b)) (a ≤ b)
+is_le_exact a b = record {
+  sound = le_from_is_le a b;
+  complete = λ l. by_ranked (a < b) (a ≡ b) (b < a) (nat_cmp a b) (ranked a b _ refl) (λ e _. ap is_le e) (λ e _. ap is_le e) (λ _ g. absurd (omega arith));
+}
+
+pub within_exact : {s : RangeInclusive ℕ} {a b x : ℕ} {r : Bool} → s.start ≡ a → s.end ≡ b → s.exhausted ≡ false
+    → r ≡ range_inclusive_contains (λ m n. Some (nat_cmp m n)) s x → Exact r ((a ≤ x) × (x ≤ b))
+within_exact {a = a} {b = b} {x = x} e f g v = rw (v, e, f, g) (exact_and (is_le_exact a x) (is_le_exact x b))
 
 -- compare_suffix
 
@@ -98,12 +116,12 @@ module _ {slots arena : List ℕ} {leaf : Leaf} {suffix : Bytes} {first i : ℕ}
   passed_next h c o = passed_more g (rw e t.room) h c o
 
   pub found_gap : {r : Ordering} → i < leaf.pairs → Compared suffix (suffix_at arena (get_or slots (first + i) 0)) r → r ≡ Less
-      → Gap i ≡ find_told (place suffix (suffixes_of arena (leaf_slots slots leaf)))
+      → Err i ≡ find_told (place suffix (suffixes_of arena (leaf_slots slots leaf)))
   found_gap h c o = told slots arena leaf suffix first (gap i) e (place_less g (rw e t.room) h c o)
 
   pub found_at : {r : Ordering} → i < leaf.pairs → Compared suffix (suffix_at arena (get_or slots (first + i) 0)) r → r ≡ Equal
-      → At i ≡ find_told (place suffix (suffixes_of arena (leaf_slots slots leaf)))
+      → Ok i ≡ find_told (place suffix (suffixes_of arena (leaf_slots slots leaf)))
   found_at h c o = told slots arena leaf suffix first (at i) e (place_equal g (rw e t.room) h c o)
 
-  pub found_end : leaf.pairs ≤ i → Gap leaf.pairs ≡ find_told (place suffix (suffixes_of arena (leaf_slots slots leaf)))
+  pub found_end : leaf.pairs ≤ i → Err leaf.pairs ≡ find_told (place suffix (suffixes_of arena (leaf_slots slots leaf)))
   found_end h = told slots arena leaf suffix first (gap leaf.pairs) e (place_past g (rw e t.room) h)

@@ -1,10 +1,8 @@
 -- A key's part from the prefix length on is the key without its first bytes; the prefix length is within both keys.
 -- Assumes nothing.
-use Rattle.std.specs.Prelude.{◌+◌, ◌-◌, ◌≤◌, ℕ, List, ◌≡◌, drop, length, take}
-use Rattle.std.proofs.Common.{◌∙◌, ap, sym, arith, drop-drop}
+use Rattle.std.specs.Prelude.{◌+◌, ◌-◌, ◌≤◌, ℕ, List, ◌≡◌, drop, length, take, Some, None}
+use Rattle.std.proofs.Common.{◌∙◌, ap, sym, arith, drop-drop, Option}
 use Rattle.leaf.specs.Keys.{KeyAt, PrefixOf, UpperAt, key_at, key_part}
-use Rattle.leaf.specs.declared.Upper.{Upper}
-use Rattle.leaf.specs.declared.Upper.TheVariants.{At, Nothing}
 use Rattle.lists.proofs.PartLaws.{length-part, take-drop}
 use Rattle.order.specs.Bytes.{common}
 use Rattle.order.specs.CommonLaws.{common_left, common_right}
@@ -22,10 +20,10 @@ key_part_lem arena prefix k h =
 
 -- L2 without an upper key, and with one
 
-pub prefix_none : {arena : List ℕ} {low : LowKey} {upper : Upper} → upper ≡ Nothing → KeyAt arena 0 low → PrefixOf arena low upper 0
+pub prefix_none : {arena : List ℕ} {low : LowKey} {upper : Option LowKey} → upper ≡ None → KeyAt arena 0 low → PrefixOf arena low upper 0
 prefix_none e a = record { is = rw e; in_low = a; in_upper = rw e tt }
 
-pub prefix_some : {arena : List ℕ} {low u : LowKey} {upper : Upper} (r : ℕ) → upper ≡ At u → KeyAt arena 0 low → KeyAt arena 0 u
+pub prefix_some : {arena : List ℕ} {low u : LowKey} {upper : Option LowKey} (r : ℕ) → upper ≡ Some u → KeyAt arena 0 low → KeyAt arena 0 u
     → r ≡ common (take (low.offset.0 + low.length - low.offset.0) (drop low.offset.0 arena)) (take (u.offset.0 + u.length - u.offset.0) (drop u.offset.0 arena))
     → PrefixOf arena low upper r
 prefix_some {arena} {low} {u} r e a b c =
@@ -38,5 +36,5 @@ prefix_some {arena} {low} {u} r e a b c =
       in_upper = rw e (record { inside = b.inside; fits = b.fits; long = omega (arith, key_length b, common_right (key_at arena low) (key_at arena u)) });
     }
 
-pub upper_key : {upper : Upper} {u : LowKey} (arena : List ℕ) (prefix : ℕ) → upper ≡ At u → UpperAt arena prefix upper → KeyAt arena prefix u
+pub upper_key : {upper : Option LowKey} {u : LowKey} (arena : List ℕ) (prefix : ℕ) → upper ≡ Some u → UpperAt arena prefix upper → KeyAt arena prefix u
 upper_key arena prefix e k = rw e at k

@@ -37,7 +37,7 @@ impl Leaf {
     {
         Leaf {
             number: LeafNo(0),
-            fanout: fanout,
+            fanout,
             pairs: 0,
             prefix_length: 0,
         }
@@ -58,38 +58,19 @@ impl Leaf {
     pub fn fanout_met(fanout: usize) -> bool
         ensures { Exact result ((fanout_least ≤ fanout) × (fanout ≤ fanout_limit)) }
     {
-        if fanout < Leaf::FANOUT_LEAST {
-            return false;
-        }
-        fanout <= Leaf::FANOUT_LIMIT
+        (Leaf::FANOUT_LEAST..=Leaf::FANOUT_LIMIT).contains(&fanout)
     }
 }
 
-// A leaf's upper key is the next leaf's low key; the last leaf has none.
-#[derive(Clone, Copy)]
-pub enum Upper {
-    At(LowKey),
-    Nothing,
-}
-
 // L2: where the leaf has no upper key, the prefix length stays 0.
-pub fn prefix_length(arena: &[u8], low: LowKey, upper: Upper) -> usize
+pub fn prefix_length(arena: &[u8], low: LowKey, upper: Option<LowKey>) -> usize
     requires { KeyAt arena.now 0 low × UpperAt arena.now 0 upper }
     ensures { PrefixOf arena.now low upper result }
 {
-    let Upper::At(u) = upper else {
+    let Some(u) = upper else {
         return 0;
     };
     let i = low.offset.0;
     let j = u.offset.0;
-    let end_i = i + low.length;
-    let end_j = j + u.length;
-    common(&arena[i..end_i], &arena[j..end_j])
-}
-
-// Where a key stands in a leaf, counted in slots from the leaf's first: at a pair, or in the gap before one.
-#[derive(Clone, Copy)]
-pub enum Find {
-    At(usize),
-    Gap(usize),
+    common(&arena[i..i + low.length], &arena[j..j + u.length])
 }

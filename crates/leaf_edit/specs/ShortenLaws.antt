@@ -1,11 +1,9 @@
 -- What `shorten_keys_after_split` asks of `shorten_keys`, and what it leaves.
 -- Assumes nothing.
-use Rattle.std.specs.Prelude.{ℕ, ◌+◌, ◌-◌, ◌≤◌, List, [], ◌∷◌, map, ◌≡◌, refl, length, take}
-use Rattle.std.proofs.Common.{◌∙◌, ap, sym, arith}
+use Rattle.std.specs.Prelude.{ℕ, ◌+◌, ◌-◌, ◌≤◌, List, [], ◌∷◌, map, ◌≡◌, refl, length, take, None}
+use Rattle.std.proofs.Common.{◌∙◌, ap, sym, arith, Option}
 use Rattle.layout.specs.Shifted.{shifted}
 use Rattle.leaf.specs.Keys.{key_at, upper_at}
-use Rattle.leaf.specs.declared.Upper.{Upper}
-use Rattle.leaf.specs.declared.Upper.TheVariants.{Nothing}
 use Rattle.leaf_edit.specs.Shorten.{CanShorten, Halved, ShortenedKeys}
 use Rattle.lists.specs.All.{All, all_mono}
 use Rattle.lists.proofs.PartLaws.{put-part}
@@ -21,10 +19,10 @@ map_same : (l : List ℕ) → map (shifted 0) l ≡ l
 map_same [] = refl
 map_same (w ∷ l) = ap (λ (m : List ℕ). shifted 0 w ∷ m) (map_same l) ∙ ap (λ (x : ℕ). x ∷ l) (let e : shifted 0 w ≡ w = omega arith in e)
 
-module _ {fanout : ℕ} {slots arena : List ℕ} {d old : ℕ} {low : LowKey} {upper : Upper} where
+module _ {fanout : ℕ} {slots arena : List ℕ} {d old : ℕ} {low : LowKey} {upper : Option LowKey} where
   -- without an upper key nothing changes
 
-  pub short_none : CanShorten fanout slots arena d old low upper → upper ≡ Nothing → ShortenedKeys fanout slots arena d old low upper 0 slots
+  pub short_none : CanShorten fanout slots arena d old low upper → upper ≡ None → ShortenedKeys fanout slots arena d old low upper 0 slots
   short_none t e =
       let h = t.halved in
       let z : old ≡ 0 = omega (arith, rw e at h.longer) in

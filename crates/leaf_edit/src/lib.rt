@@ -3,7 +3,7 @@
 
 ghost use Rattle.leaf_edit.specs.Shorten.{CanShorten, ShortenedKeys};
 
-use leaf::{Upper, prefix_length};
+use leaf::prefix_length;
 use slots::shorten_keys;
 use words::LowKey;
 
@@ -16,12 +16,12 @@ pub fn shorten_keys_after_split(
     d: u32,
     old: usize,
     low: LowKey,
-    upper: Upper,
+    upper: Option<LowKey>,
 ) -> usize
     requires { CanShorten fanout slots.old arena.now d old low upper }
     ensures { ShortenedKeys fanout slots.old arena.now d old low upper result slots.new }
 {
-    let Upper::At(_) = upper else {
+    let Some(_) = upper else {
         return 0;
     };
     let length = prefix_length(arena, low, upper);

@@ -1,15 +1,18 @@
 -- Words one space apart: where the first word ends, and that a line falls into its words in one way only.
 -- Assumes nothing.
-use Rattle.std.specs.Prelude.{ℕ, suc, ◌+◌, ◌<◌, false, true, [], ◌∷◌, ◌≡◌, refl, drop, get_or, length, take}
-use Rattle.std.proofs.Common.{sym, add-one, arith, take_all, take-suc}
+use Rattle.std.specs.Prelude.{ℕ, suc, ◌+◌, ◌<◌, Bool, [], ◌∷◌, ◌≡◌, refl, false, true, drop, eqb, get_or, length, take}
+use Rattle.std.proofs.Common.{Decides, ◌∙◌, sym, add-one, arith, take_all, take-suc}
 use Rattle.std.proofs.Math.Seq.{split_at}
+use Rattle.std.proofs.lemmas.Bool.Decides.{Decides-eqb}
+use Rattle.std.proofs.lemmas.Slice.Eq.{slice_eq-Decides}
+use Rattle.std.specs.Cmp.Lexicographic.{pointwise}
+use Rattle.std.specs.declared.cmp.Ordering.{Ordering}
+use Rattle.std.specs.declared.cmp.Ordering.TheVariants.{Equal, Greater, Less}
 use Rattle.lists.specs.All.{all_append, all_right}
 use Rattle.lists.specs.Exact.{Exact, exact_no, exact_yes}
 use Rattle.order.specs.Bytes.{Bytes}
 use Rattle.order.specs.Compared.{Compared, compared_equal, compared_greater, compared_less}
 use Rattle.order.specs.OrderLaws.{upto_of_eq}
-use Rattle.order.specs.declared.Ordering.{Ordering}
-use Rattle.order.specs.declared.Ordering.TheVariants.{Equal, Greater, Less}
 use Rattle.lines.specs.Grammar.{◌␣◌}
 use Rattle.lines.specs.Pieces.{Cut, Spaceless}
 
@@ -44,7 +47,7 @@ pub cut_join : {line : Bytes} {e : ℕ} → Cut line e → e < length line → t
 unfolding ◌␣◌
 cut_join {line} {e} c h = cc (split_at line e 0 h, c.stop h, add-one e)
 
--- the answer of `same`, by that of `compare`
+-- two words the same, by how they compare
 
 pub same_equal : {a b : Bytes} {r : Ordering} → Compared a b r → r ≡ Equal → Exact true (a ≡ b)
 same_equal c e = exact_yes (compared_equal c e)
@@ -54,3 +57,9 @@ same_less c e = exact_no (λ p. upto_of_eq (sym p) (compared_less c e))
 
 pub same_greater : {a b : Bytes} {r : Ordering} → Compared a b r → r ≡ Greater → Exact false (a ≡ b)
 same_greater c e = exact_no (λ p. upto_of_eq p (compared_greater c e))
+
+-- what `==` of two words shows, where the second is spelled out
+pub equal_words : {a b w : Bytes} {r : Bool} → r ≡ pointwise eqb a b → b ≡ w → Exact r (a ≡ w)
+equal_words {a} {b} {w} {r} e f =
+    let d : Decides r (a ≡ b) = slice_eq-Decides Decides-eqb a b r e in
+    record { sound = λ t. d.0 t ∙ f; complete = λ p. d.1 (p ∙ sym f) }

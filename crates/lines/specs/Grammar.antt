@@ -1,10 +1,11 @@
 -- The script program's lines: the text of each command. A line is formed exactly where it is the text of a command and has at most
 -- 4,096 bytes.
-use Rattle.std.specs.Prelude.{ℕ, zero, suc, ◌+◌, ◌/◌, ◌%◌, ◌≤◌, ◌<◌, cond, [], ◌++◌, ◌∷◌, ◌≡◌, ltb, drop, length, take}
+use Rattle.std.specs.Prelude.{ℕ, zero, suc, ◌+◌, ◌/◌, ◌%◌, ◌≤◌, ◌<◌, cond, None, Some, [], ◌++◌, ◌∷◌, ◌≡◌, ltb, drop, length, take}
+use Rattle.std.proofs.Common.{Option}
 use Rattle.lists.specs.All.{All}
 use Rattle.order.specs.Bytes.{Bytes}
 use Rattle.lines.specs.declared.Line.{Line}
-use Rattle.lines.specs.declared.Line.TheVariants.{Bad, Del, Get, Leaves, New, Next, Put}
+use Rattle.lines.specs.declared.Line.TheVariants.{Del, Get, Leaves, New, Next, Put}
 
 -- a hexadecimal digit in lower case: 0 to 9, then a to f
 unfoldable pub digit_of : ℕ → ℕ
@@ -99,11 +100,11 @@ abbrev pub Key : (Bytes → Command) → (line key key' value value' : Bytes) �
 Key f line key key' value value' n = Says line (f (take n key')) × Front key key' n × (value' ≡ value)
 
 -- What `parse` answers and leaves: the command that the line says, with its bytes at the front of the lent buffers, or that it says none.
-abbrev pub Parsed : (line key key' value value' : Bytes) → Line → Type 0
-Parsed line key key' value value' (New s) = Says line (makes s.fanout s.pool s.arena) × (key' ≡ key) × (value' ≡ value)
-Parsed line key key' value value' (Put n m) = Says line (puts (take n key') (take m value')) × Front key key' n × Front value value' m
-Parsed line key key' value value' (Get n) = Key gets line key key' value value' n
-Parsed line key key' value value' (Del n) = Key dels line key key' value value' n
-Parsed line key key' value value' (Next n) = Key nexts line key key' value value' n
-Parsed line key key' value value' Leaves = Says line shows × (key' ≡ key) × (value' ≡ value)
-Parsed line key key' value value' Bad = ((c : Command) → Says line c → ⊥) × (key' ≡ key) × (value' ≡ value)
+abbrev pub Parsed : (line key key' value value' : Bytes) → Option Line → Type 0
+Parsed line key key' value value' (Some (New s)) = Says line (makes s.fanout s.pool s.arena) × (key' ≡ key) × (value' ≡ value)
+Parsed line key key' value value' (Some (Put n m)) = Says line (puts (take n key') (take m value')) × Front key key' n × Front value value' m
+Parsed line key key' value value' (Some (Get n)) = Key gets line key key' value value' n
+Parsed line key key' value value' (Some (Del n)) = Key dels line key key' value value' n
+Parsed line key key' value value' (Some (Next n)) = Key nexts line key key' value value' n
+Parsed line key key' value value' (Some Leaves) = Says line shows × (key' ≡ key) × (value' ≡ value)
+Parsed line key key' value value' None = ((c : Command) → Says line c → ⊥) × (key' ≡ key) × (value' ≡ value)

@@ -1,9 +1,10 @@
 -- Bytes as hexadecimal digits: a digit has one value, and a word of an even number of digits is the text of its bytes.
 -- Assumes nothing.
-use Rattle.std.specs.Prelude.{ℕ, zero, suc, ◌+◌, ◌-◌, ◌*◌, ◌/◌, ◌%◌, ◌≤◌, ◌<◌, [], ◌∷◌, ◌≡◌, refl, eqb, get_or, length, set}
-use Rattle.std.proofs.Common.{sym, ap, ◌∙◌, arith, lt-ltb, le-ltb}
+use Rattle.std.specs.Prelude.{ℕ, zero, suc, ◌+◌, ◌-◌, ◌*◌, ◌/◌, ◌%◌, ◌≤◌, ◌<◌, None, Some, true, false, [], ◌∷◌, ◌≡◌, refl, is_some, eqb, get_or, length, set}
+use Rattle.std.specs.List.{AllWithin, HoldsAt}
+use Rattle.std.proofs.Common.{Bool, MatchBool, Option, IsSome, sym, ap, ◌∙◌, arith, lt-ltb, le-ltb}
 use Rattle.lists.specs.All.{all_at}
-use Rattle.lists.specs.Exact.{Exact, exact_eqb, exact_iff}
+use Rattle.lists.specs.Exact.{Exact, exact_eqb, exact_iff, exact_no, exact_yes, no_way}
 use Rattle.lists.specs.Fill.{Filling}
 use Rattle.lists.proofs.FillLaws.{fill_done, fill_step}
 use Rattle.order.specs.Bytes.{Bytes}
@@ -40,38 +41,48 @@ digit_large d = elim (ten d) [ low x ↦ omega (arith, digit_low d x) | high x �
 
 -- the value of a byte
 
-pub hex_none : (b : ℕ) → ((d : ℕ) → d < 10 → 48 + d ≡ b → ⊥) → ((d : ℕ) → 10 ≤ d → d < 16 → 87 + d ≡ b → ⊥) → HexValue b 16
-hex_none b f g =
-    record {
-      small = omega arith;
-      is = λ h. absurd (omega arith);
-      none = λ e t. elim (ten t.digit) [
-        | low x ↦ f t.digit x (sym (digit_low t.digit x) ∙ t.text)
-        | high x ↦ g t.digit x t.fits (sym (digit_high t.digit x) ∙ t.text)
-      ];
-    }
+pub hex_none : (b : ℕ) → ((d : ℕ) → d < 10 → 48 + d ≡ b → ⊥) → ((d : ℕ) → 10 ≤ d → d < 16 → 87 + d ≡ b → ⊥) → HexValue b None
+hex_none b f g t =
+    elim (ten t.digit) [
+      | low x ↦ f t.digit x (sym (digit_low t.digit x) ∙ t.text)
+      | high x ↦ g t.digit x t.fits (sym (digit_high t.digit x) ∙ t.text)
+    ]
 
-pub hex_low : (b : ℕ) → 48 ≤ b → b < 58 → HexValue b (b - 48)
-hex_low b h k =
-    record { small = omega arith; is = λ x. omega (arith, digit_low (b - 48) (omega arith)); none = λ e t. omega arith }
+pub hex_low : (b : ℕ) → 48 ≤ b → b < 58 → HexValue b (Some (b - 48))
+hex_low b h k = (omega arith, omega (arith, digit_low (b - 48) (omega arith)))
 
-pub hex_high : (b : ℕ) → 97 ≤ b → b < 103 → HexValue b (b - 87)
-hex_high b h k =
-    record { small = omega arith; is = λ x. omega (arith, digit_high (b - 87) (omega arith)); none = λ e t. omega arith }
+pub hex_high : (b : ℕ) → 97 ≤ b → b < 103 → HexValue b (Some (b - 97 + 10))
+hex_high b h k = (omega arith, omega (arith, digit_high (b - 97 + 10) (omega arith)))
 
-pub value_small : {b r : ℕ} → HexValue b r → IsDigit b → r < 16
-value_small {b} {r} v t =
-    elim (heads r 16) [ lower h ↦ h | level h ↦ absurd (v.none h t) | upper h ↦ absurd (omega (arith, v.small)) ]
+-- a digit has a value
+pub value_some : {b : ℕ} (r : Option ℕ) → HexValue b r → IsDigit b → IsSome r
+value_some (Some d) v t = refl
+value_some None v t = absurd (v t)
 
-pub value_digit : {b r : ℕ} → HexValue b r → (r ≡ 16 → ⊥) → IsDigit b
-value_digit {b} {r} v n = let h : r < 16 = omega (arith, v.small) in record { digit = r; fits = h; text = v.is h }
+pub value_digit : {b : ℕ} (r : Option ℕ) → HexValue b r → is_some r ≡ true → IsDigit b
+value_digit (Some d) v e = record { digit = d; fits = v.0; text = v.1 }
+value_digit None v e = no_way e
 
+pub value_none : {b : ℕ} (r : Option ℕ) → HexValue b r → is_some r ≡ false → IsDigit b → ⊥
+value_none (Some d) v e = no_way (sym e)
+value_none None v e = v
+
+pub value_small : {b r : ℕ} → HexValue b (Some r) → r < 16
+value_small v = v.0
+
+-- digits, one byte more
 pub digits_more : (word : Bytes) (i k : ℕ) → k ≡ i + 1 → AllDigits word i → IsDigit (get_or word i 0) → AllDigits word k
 digits_more word i k e f d j h =
     elim (heads j i) [ lower x ↦ f j x | level x ↦ rw x d | upper x ↦ absurd (omega arith) ]
 
 pub digits_all : (word : Bytes) (i : ℕ) → length word ≤ i → AllDigits word i → AllDigits word (length word)
 digits_all word i h f j k = f j (omega arith)
+
+-- what a look at every byte shows
+pub exact_digits : (r : Bool) (word : Bytes) → MatchBool r (AllWithin IsDigit word 0 (length word)) ((k : ℕ) × (k < length word) × HoldsAt (λ b. IsDigit b → ⊥) word k)
+    → Exact r (AllDigits word (length word))
+exact_digits true word f = exact_yes (λ j h. f j 0 (omega arith) h)
+exact_digits false word f = exact_no (λ g. f.2 0 (g f.0 f.1))
 
 -- text of bytes
 
@@ -197,18 +208,18 @@ abbrev pub Decoding : (word was now_is : Bytes) → ℕ → Type 0
 Decoding word was now_is i = (s : Bytes) → AllBytes s → bytes_text s ≡ word → Filling was 0 s i now_is
 
 pub decode_turn : (word was now_is : Bytes) (i k x y : ℕ) → length word / 2 ≤ length was → i < length word / 2 → k ≡ i + 1 → IsBytes word
-    → HexValue (get_or word (2 * i) 0) x → HexValue (get_or word (2 * i + 1) 0) y → Decoding word was now_is i
+    → HexValue (get_or word (2 * i) 0) (Some x) → HexValue (get_or word (2 * i + 1) 0) (Some y) → Decoding word was now_is i
     → Decoding word was (set now_is i (x * 16 + y)) k
 decode_turn word was now_is i k x y m h e b p q d s a t =
     let n : length word / 2 ≡ length s = sym (ap (λ (w : Bytes). length w / 2) t) ∙ bytes_half s in
     let o : get_or s i 0 < 256 = all_at (λ b. b < 256) s i 0 (omega arith) a in
-    let u : x < 16 = value_small p (digit_read (2 * i) b (omega arith)) in
-    let v : y < 16 = value_small q (digit_read (2 * i + 1) b (omega arith)) in
+    let u : x < 16 = p.0 in
+    let v : y < 16 = q.0 in
     let w : hex_of s ≡ word = hexed s (omega arith) ∙ t in
     let f : x ≡ get_or s i 0 / 16 =
-    digit_one _ _ u (omega arith) (p.is u ∙ ap (λ (w : Bytes). get_or w (2 * i) 0) (sym w) ∙ hex_first s i (2 * i) refl (omega arith)) in
+    digit_one _ _ u (omega arith) (p.1 ∙ ap (λ (w : Bytes). get_or w (2 * i) 0) (sym w) ∙ hex_first s i (2 * i) refl (omega arith)) in
     let g : y ≡ get_or s i 0 % 16 =
-    digit_one _ _ v (omega arith) (q.is v ∙ ap (λ (w : Bytes). get_or w (2 * i + 1) 0) (sym w) ∙ hex_second s i (2 * i + 1) refl (omega arith)) in
+    digit_one _ _ v (omega arith) (q.1 ∙ ap (λ (w : Bytes). get_or w (2 * i + 1) 0) (sym w) ∙ hex_second s i (2 * i + 1) refl (omega arith)) in
     fill_step was 0 s i k now_is i (x * 16 + y) 0 (omega arith) (omega arith) e (omega arith) (omega arith) (d s a t)
 
 pub decode_done : (word was now_is : Bytes) (i n : ℕ) → n ≡ length word / 2 → i ≡ n → Decoding word was now_is i → Decoded word was now_is n

@@ -1,6 +1,6 @@
 -- Numbers in decimal: what their digits are, and that a word of 1 to 9 digits that does not start with 0 is the text of its number.
 -- Assumes nothing.
-use Rattle.std.specs.Prelude.{ℕ, zero, suc, ◌+◌, ◌*◌, ◌/◌, ◌%◌, ◌^◌, ◌≤◌, ◌<◌, [], ◌++◌, ◌∷◌, ◌≡◌, refl, get_or, length, take}
+use Rattle.std.specs.Prelude.{ℕ, zero, suc, ◌+◌, ◌*◌, ◌/◌, ◌%◌, ◌^◌, ◌≤◌, ◌<◌, None, Some, [], ◌++◌, ◌∷◌, ◌≡◌, refl, get_or, length, take}
 use Rattle.std.proofs.Common.{sym, ap, ◌∙◌, pow-suc, arith, lt-ltb, le-ltb, length-append, take-suc, take_all}
 use Rattle.std.proofs.Math.Nat.{pow-le-pow_right}
 use Rattle.std.proofs.Math.ListN.{get_or-append}
@@ -10,7 +10,6 @@ use Rattle.lines.specs.Grammar.{Number, digits_of, number_text}
 use Rattle.lines.specs.HexLaws.{ten}
 use Rattle.lines.specs.HexLaws.Ten.{low, high}
 use Rattle.lines.specs.Pieces.{Numbered, Spaceless, TenValue}
-use Rattle.lines.specs.declared.Decimal.TheVariants.{Is, Not}
 
 -- the two clauses, and that more digits than there are change nothing
 
@@ -115,23 +114,23 @@ number_head n h e = digits_head 8 n h e
 
 -- words that are no number's text
 
-pub none_empty : (word : Bytes) → length word ≡ 0 → Numbered word Not
+pub none_empty : (word : Bytes) → length word ≡ 0 → Numbered word None
 none_empty word e v k t = omega (arith, number_some v, ap length t)
 
-pub none_long : (word : Bytes) → 9 < length word → Numbered word Not
+pub none_long : (word : Bytes) → 9 < length word → Numbered word None
 none_long word e v k t = omega (arith, number_most v, ap length t)
 
-pub none_zero : (word : Bytes) → get_or word 0 0 ≡ 48 → 1 < length word → Numbered word Not
+pub none_zero : (word : Bytes) → get_or word 0 0 ≡ 48 → 1 < length word → Numbered word None
 none_zero word e h zero k t = omega (arith, ap length (number_small 0 (omega arith)), ap length t)
 none_zero word e h (suc v) k t = number_head (suc v) (omega arith) (ap (λ (s : Bytes). get_or s 0 0) t ∙ e)
 
-pub none_byte : (word : Bytes) (i r : ℕ) → i < length word → TenValue (get_or word i 0) r → r ≡ 10 → Numbered word Not
-none_byte word i r h x e v k t =
+pub none_byte : (word : Bytes) (i : ℕ) → i < length word → TenValue (get_or word i 0) None → Numbered word None
+none_byte word i h x v k t =
     let y = all_at (λ b. (48 ≤ b) × (b < 58)) (number_text v) i 0 (omega (arith, ap length t)) (number_ranged v k) in
     let u : get_or (number_text v) i 0 ≡ get_or word i 0 = ap (λ (s : Bytes). get_or s i 0) t in
-    x.none e (omega (arith, y.0)) (omega (arith, y.1))
+    x (omega (arith, y.0)) (omega (arith, y.1))
 
-pub is_zero : (word : Bytes) → get_or word 0 0 ≡ 48 → length word ≡ 1 → Numbered word (Is 0)
+pub is_zero : (word : Bytes) → get_or word 0 0 ≡ 48 → length word ≡ 1 → Numbered word (Some 0)
 is_zero word e h = (omega arith, number_small 0 (omega arith) ∙ one word e h)
   where
     one : (w : Bytes) → get_or w 0 0 ≡ 48 → length w ≡ 1 → 48 ∷ [] ≡ w
@@ -139,8 +138,8 @@ is_zero word e h = (omega arith, number_small 0 (omega arith) ∙ one word e h)
     one (x ∷ []) e h = cc
     one (x ∷ y ∷ w) e h = absurd (omega arith)
 
-pub ten_small : {b r : ℕ} → TenValue b r → (r ≡ 10 → ⊥) → r < 10
-ten_small v n = omega (arith, v.small)
+pub ten_small : {b r : ℕ} → TenValue b (Some r) → r < 10
+ten_small v = v.0
 
 -- the loop of `counted`: the number of the first i digits
 
@@ -149,8 +148,8 @@ pub record Counting (word : Bytes) (i v : ℕ) : Type 0 where
   pub small : v < 10 ^ i
   pub text : number_text v ≡ take i word
 
-pub count_start : (word : Bytes) (v : ℕ) → 0 < length word → (get_or word 0 0 ≡ 48 → ⊥) → TenValue (get_or word 0 0) v → v < 10 → Counting word 1 v
-count_start word v h n x k = record { seen = pos v (x.is k); small = omega arith; text = number_small v k ∙ one word h (x.is k) }
+pub count_start : (word : Bytes) (v : ℕ) → 0 < length word → (get_or word 0 0 ≡ 48 → ⊥) → TenValue (get_or word 0 0) (Some v) → Counting word 1 v
+count_start word v h n x = record { seen = pos v x.1; small = omega (arith, x.0); text = number_small v x.0 ∙ one word h x.1 }
   where
     pos : (m : ℕ) → 48 + m ≡ get_or word 0 0 → 0 < m
     pos zero e = absurd (n (sym e))
@@ -163,9 +162,10 @@ count_start word v h n x k = record { seen = pos v (x.is k); small = omega arith
 pub count_fits : (i v : ℕ) → i ≤ 9 → v < 10 ^ i → Number v
 count_fits i v h k = let e = pow-le-pow_right {n = 10} (omega arith) {i = i} {j = 9} h in omega arith
 
-pub count_turn : (word : Bytes) (i k v d : ℕ) → i < length word → length word ≤ 9 → k ≡ i + 1 → TenValue (get_or word i 0) d → d < 10
+pub count_turn : (word : Bytes) (i k v d : ℕ) → i < length word → length word ≤ 9 → k ≡ i + 1 → TenValue (get_or word i 0) (Some d)
     → Counting word i v → Counting word k (v * 10 + d)
-count_turn word i k v d h m e x l c =
+count_turn word i k v d h m e x c =
+    let l : d < 10 = x.0 in
     let o : k ≡ suc i = omega arith in
     let p : v * 10 + d < 10 ^ k = rw o (let q = pow-suc 10 i in omega (arith, c.small)) in
     let n : Number (v * 10 + d) = count_fits k _ (omega arith) p in
@@ -175,8 +175,8 @@ count_turn word i k v d h m e x l c =
     record {
       seen = omega (arith, c.seen);
       small = p;
-      text = cc (s, a, b, x.is l, c.text, o, take-suc word i 0 h);
+      text = cc (s, a, b, x.1, c.text, o, take-suc word i 0 h);
     }
 
-pub count_done : (word : Bytes) (i v : ℕ) → length word ≡ i → i ≤ 9 → Counting word i v → Numbered word (Is v)
+pub count_done : (word : Bytes) (i v : ℕ) → length word ≡ i → i ≤ 9 → Counting word i v → Numbered word (Some v)
 count_done word i v e h c = (count_fits i v h c.small, c.text ∙ take_all i word (omega arith))

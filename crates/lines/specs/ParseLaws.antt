@@ -1,7 +1,7 @@
 -- From words to lines: each answer of `parse` and of the functions under it, by what was found of the words.
 -- Assumes nothing.
-use Rattle.std.specs.Prelude.{ℕ, ◌+◌, ◌-◌, ◌/◌, ◌≤◌, ◌<◌, ◌∷◌, ◌≡◌, refl, drop, get_or, length, take}
-use Rattle.std.proofs.Common.{sym, ap, subst, ◌∙◌, arith, length-append, length-drop, take_all}
+use Rattle.std.specs.Prelude.{ℕ, ◌+◌, ◌-◌, ◌/◌, ◌≤◌, ◌<◌, None, Some, ◌∷◌, ◌≡◌, refl, drop, get_or, length, take}
+use Rattle.std.proofs.Common.{Option, sym, ap, subst, ◌∙◌, arith, length-append, length-drop, take_all}
 use Rattle.lists.proofs.PartLaws.{drop-put_after, length-put, part-put}
 use Rattle.lists.specs.Part.{put}
 use Rattle.order.specs.Bytes.{Bytes}
@@ -11,10 +11,8 @@ use Rattle.lines.specs.Grammar.Command.{dels, gets, makes, nexts, puts, shows}
 use Rattle.lines.specs.HexLaws.{bytes_clear, bytes_half}
 use Rattle.lines.specs.NumberLaws.{number_clear}
 use Rattle.lines.specs.Pieces.{Cut, Decoded, IsBytes, Numbered, OneKey, Spaceless}
-use Rattle.lines.specs.declared.Decimal.{Decimal}
-use Rattle.lines.specs.declared.Decimal.TheVariants.{Is, Not}
 use Rattle.lines.specs.declared.Line.{Line}
-use Rattle.lines.specs.declared.Line.TheVariants.{Bad, Del, Get, Leaves, New, Next, Put}
+use Rattle.lines.specs.declared.Line.TheVariants.{Del, Get, Leaves, New, Next, Put}
 
 -- a line cut at its first space
 
@@ -23,11 +21,10 @@ pub record Joined (h t line : Bytes) : Type 0 where
   pub join : h ␣ t ≡ line
 
 pub cut_joined : {line : Bytes} {e : ℕ} → Cut line e → (e ≡ length line → ⊥)
-    → Joined (take (e - 0) (drop 0 line)) (take (length line - (e + 1)) (drop (e + 1) line)) line
+    → Joined (take e line) (take (length line - (e + 1)) (drop (e + 1) line)) line
 cut_joined {line} {e} c n =
-    let z : e - 0 ≡ e = omega arith in
     let r : take (length line - (e + 1)) (drop (e + 1) line) ≡ drop (e + 1) line = take_all (length line - (e + 1)) (drop (e + 1) line) (omega (arith, length-drop (e + 1) line)) in
-    record { clear = rw z c.clear; join = cc (z, r, cut_join c (let h : e < length line = omega (arith, c.within) in h)) }
+    record { clear = c.clear; join = cc (r, cut_join c (let h : e < length line = omega (arith, c.within) in h)) }
 
 join_length : (h t : Bytes) → length (h ␣ t) ≡ length h + 1 + length t
 unfolding ◌␣◌
@@ -91,7 +88,7 @@ no_new w n (nexts k) s = differ 2 (λ e. omega arith) (behind new_word w new_cle
 no_new w n shows s = behind new_word w new_clear shows s.text
 
 abbrev pub BadNew : Bytes → Type 0
-BadNew w = (key value : Bytes) → Parsed (new_word ␣ w) key key value value Bad
+BadNew w = (key value : Bytes) → Parsed (new_word ␣ w) key key value value None
 
 pub new_one : {w : Bytes} {e : ℕ} → Cut w e → e ≡ length w → BadNew w
 new_one {w} c h key value = (no_new w (λ f p a _ _ _ t. no_side _ _ w (cut_whole c h) t), refl, refl)
@@ -103,39 +100,30 @@ module _ {h t w : Bytes} (j : Joined h t w) where
   pub new_two : {e : ℕ} → Cut t e → e ≡ length t → BadNew w
   new_two c o key value = (no_new w (λ f p a _ _ _ e. no_side _ _ t (cut_whole c o) (new_sides f p a e).rests), refl, refl)
 
-  pub new_first : {r : Decimal} → Numbered h r → r ≡ Not → BadNew w
-  new_first {r} n o key value =
-      let m : Numbered h Not = subst (λ (d : Decimal). Numbered h d) o n in
-      (no_new w (λ f p a x _ _ e. m f x (new_sides f p a e).words), refl, refl)
+  pub new_first : Numbered h None → BadNew w
+  new_first m key value = (no_new w (λ f p a x _ _ e. m f x (new_sides f p a e).words), refl, refl)
 
   module _ {g s : Bytes} (i : Joined g s t) where
     last_sides : (f p a : ℕ) → number_text f ␣ number_text p ␣ number_text a ≡ w → Sides (number_text p) (number_text a) g s
     last_sides f p a e = sides _ _ g s (number_clear p) i.clear ((new_sides f p a e).rests ∙ sym i.join)
 
-    pub new_second : {r : Decimal} → Numbered g r → r ≡ Not → BadNew w
-    new_second {r} n o key value =
-        let m : Numbered g Not = subst (λ (d : Decimal). Numbered g d) o n in
-        (no_new w (λ f p a _ x _ e. m p x (last_sides f p a e).words), refl, refl)
+    pub new_second : Numbered g None → BadNew w
+    new_second m key value = (no_new w (λ f p a _ x _ e. m p x (last_sides f p a e).words), refl, refl)
 
-    pub new_third : {r : Decimal} → Numbered s r → r ≡ Not → BadNew w
-    new_third {r} n o key value =
-        let m : Numbered s Not = subst (λ (d : Decimal). Numbered s d) o n in
-        (no_new w (λ f p a _ _ x e. m a x (last_sides f p a e).rests), refl, refl)
+    pub new_third : Numbered s None → BadNew w
+    new_third m key value = (no_new w (λ f p a _ _ x e. m a x (last_sides f p a e).rests), refl, refl)
 
-    pub new_said : {x y z : Decimal} (f p a : ℕ) → 4 + length w ≤ 4096 → Numbered h x → x ≡ Is f → Numbered g y → y ≡ Is p → Numbered s z → z ≡ Is a
-        → (key value : Bytes) → Parsed (new_word ␣ w) key key value value (New (record { fanout = f; pool = p; arena = a }))
-    new_said f p a l nx ex ny ey nz ez key value =
-        let u = subst (λ (d : Decimal). Numbered h d) ex nx in
-        let v = subst (λ (d : Decimal). Numbered g d) ey ny in
-        let o = subst (λ (d : Decimal). Numbered s d) ez nz in (
-          record {
-            sayable = (u.0, v.0, o.0);
-            text = cc (u.1, v.1, o.1, i.join, j.join);
-            short = omega (arith, join_length new_word w);
-          },
-          refl,
-          refl,
-        )
+    pub new_said : (f p a : ℕ) → 4 + length w ≤ 4096 → Numbered h (Some f) → Numbered g (Some p) → Numbered s (Some a)
+        → (key value : Bytes) → Parsed (new_word ␣ w) key key value value (Some (New (record { fanout = f; pool = p; arena = a })))
+    new_said f p a l u v o key value = (
+      record {
+        sayable = (u.0, v.0, o.0);
+        text = cc (u.1, v.1, o.1, i.join, j.join);
+        short = omega (arith, join_length new_word w);
+      },
+      refl,
+      refl,
+    )
 
 -- bytes that were decoded
 
@@ -175,7 +163,7 @@ no_put w n (nexts k) s = differ 0 (λ e. omega arith) (behind put_word w put_cle
 no_put w n shows s = behind put_word w put_clear shows s.text
 
 abbrev pub BadPut : Bytes → Type 0
-BadPut w = (key value : Bytes) → Parsed (put_word ␣ w) key key value value Bad
+BadPut w = (key value : Bytes) → Parsed (put_word ␣ w) key key value value None
 
 pub put_one : {w : Bytes} {e : ℕ} → Cut w e → e ≡ length w → BadPut w
 put_one {w} c h key value = (no_put w (λ k v _ _ t. no_side _ _ w (cut_whole c h) t), refl, refl)
@@ -193,7 +181,7 @@ module _ {h t w : Bytes} (j : Joined h t w) where
       (no_put w (λ k v _ x e. n (record { bytes = v; fits = x; text = (put_sides k v e).rests })), refl, refl)
 
   pub put_said : {key key' value value' : Bytes} {n m : ℕ} → 4 + length w ≤ 4096 → Taken h key key' n → Taken t value value' m
-      → Parsed (put_word ␣ w) key key' value value' (Put n m)
+      → Parsed (put_word ␣ w) key key' value value' (Some (Put n m))
   put_said l x y = (
     record {
       sayable = (x.fits, y.fits);
@@ -218,30 +206,30 @@ no_key d w o n (nexts k) s =
 no_key d w o n shows s = behind d w o.clear shows s.text
 
 module _ {d w : Bytes} (o : OneKey d w) where
-  pub key_bad : (IsBytes w → ⊥) → (key value : Bytes) → Parsed (d ␣ w) key key value value Bad
+  pub key_bad : (IsBytes w → ⊥) → (key value : Bytes) → Parsed (d ␣ w) key key value value None
   key_bad n key value = (no_key d w o (λ b. absurd (n b)), refl, refl)
 
-  pub key_other : (d ≡ get_word → ⊥) → (d ≡ del_word → ⊥) → (d ≡ next_word → ⊥) → (key value : Bytes) → Parsed (d ␣ w) key key value value Bad
+  pub key_other : (d ≡ get_word → ⊥) → (d ≡ del_word → ⊥) → (d ≡ next_word → ⊥) → (key value : Bytes) → Parsed (d ␣ w) key key value value None
   key_other x y z key value = (no_key d w o (λ b. ((λ e. x (sym e)), (λ e. y (sym e)), (λ e. z (sym e)))), refl, refl)
 
-  pub key_get : {key key' : Bytes} {n : ℕ} → d ≡ get_word → Taken w key key' n → (value : Bytes) → Parsed (d ␣ w) key key' value value (Get n)
+  pub key_get : {key key' : Bytes} {n : ℕ} → d ≡ get_word → Taken w key key' n → (value : Bytes) → Parsed (d ␣ w) key key' value value (Some (Get n))
   key_get e x value =
       (record { sayable = x.fits; text = cc (e, x.text); short = omega (arith, join_length d w, o.short) }, x.front, refl)
 
-  pub key_del : {key key' : Bytes} {n : ℕ} → d ≡ del_word → Taken w key key' n → (value : Bytes) → Parsed (d ␣ w) key key' value value (Del n)
+  pub key_del : {key key' : Bytes} {n : ℕ} → d ≡ del_word → Taken w key key' n → (value : Bytes) → Parsed (d ␣ w) key key' value value (Some (Del n))
   key_del e x value =
       (record { sayable = x.fits; text = cc (e, x.text); short = omega (arith, join_length d w, o.short) }, x.front, refl)
 
-  pub key_next : {key key' : Bytes} {n : ℕ} → d ≡ next_word → Taken w key key' n → (value : Bytes) → Parsed (d ␣ w) key key' value value (Next n)
+  pub key_next : {key key' : Bytes} {n : ℕ} → d ≡ next_word → Taken w key key' n → (value : Bytes) → Parsed (d ␣ w) key key' value value (Some (Next n))
   key_next e x value =
       (record { sayable = x.fits; text = cc (e, x.text); short = omega (arith, join_length d w, o.short) }, x.front, refl)
 
 -- the whole line
 
-pub leaves_said : {line : Bytes} (key value : Bytes) → line ≡ leaves_word → length line ≤ 4096 → Parsed line key key value value Leaves
+pub leaves_said : {line : Bytes} (key value : Bytes) → line ≡ leaves_word → length line ≤ 4096 → Parsed line key key value value (Some Leaves)
 leaves_said key value e h = (record { sayable = tt; text = sym e; short = h }, refl, refl)
 
-pub alone : {line : Bytes} (key value : Bytes) → Spaceless line → (line ≡ leaves_word → ⊥) → Parsed line key key value value Bad
+pub alone : {line : Bytes} (key value : Bytes) → Spaceless line → (line ≡ leaves_word → ⊥) → Parsed line key key value value None
 alone {line} key value s n = (none, refl, refl)
   where
     none : (c : Command) → Says line c → ⊥
@@ -253,7 +241,7 @@ alone {line} key value s n = (none, refl, refl)
     none shows x = n (sym x.text)
 
 module _ {h t line : Bytes} (j : Joined h t line) where
-  pub of_word : (key key' value value' w : Bytes) (r : Line) → h ≡ w → Parsed (w ␣ t) key key' value value' r
+  pub of_word : (key key' value value' w : Bytes) (r : Option Line) → h ≡ w → Parsed (w ␣ t) key key' value value' r
       → Parsed line key key' value value' r
   of_word key key' value value' w r e p =
       subst (λ (l : Bytes). Parsed l key key' value value' r) (cc (e, j.join)) p

@@ -1,11 +1,10 @@
 -- What the functions under `parse` promise of one word of a line.
-use Rattle.std.specs.Prelude.{ℕ, ◌+◌, ◌≤◌, ◌<◌, ◌≡◌, get_or, length, take}
+use Rattle.std.specs.Prelude.{ℕ, ◌+◌, ◌≤◌, ◌<◌, None, Some, ◌≡◌, get_or, length, take}
+use Rattle.std.proofs.Common.{Option}
 use Rattle.lists.specs.All.{All}
 use Rattle.lists.specs.Part.{put}
 use Rattle.order.specs.Bytes.{Bytes}
 use Rattle.lines.specs.Grammar.{AllBytes, Number, bytes_text, digit_of, new_word, number_text, put_word}
-use Rattle.lines.specs.declared.Decimal.{Decimal}
-use Rattle.lines.specs.declared.Decimal.TheVariants.{Is, Not}
 
 -- the byte is a hexadecimal digit
 pub record IsDigit (b : ℕ) : Type 0 where
@@ -13,17 +12,15 @@ pub record IsDigit (b : ℕ) : Type 0 where
   pub fits : digit < 16
   pub text : digit_of digit ≡ b
 
--- a digit's value, or 16
-pub record HexValue (b r : ℕ) : Type 0 where
-  pub small : r ≤ 16
-  pub is : r < 16 → digit_of r ≡ b
-  pub none : r ≡ 16 → IsDigit b → ⊥
+-- a hexadecimal digit's value, or that the byte is none
+abbrev pub HexValue : ℕ → Option ℕ → Type 0
+HexValue b (Some d) = (d < 16) × (digit_of d ≡ b)
+HexValue b None = IsDigit b → ⊥
 
--- a decimal digit's value, or 10
-pub record TenValue (b r : ℕ) : Type 0 where
-  pub small : r ≤ 10
-  pub is : r < 10 → 48 + r ≡ b
-  pub none : r ≡ 10 → 48 ≤ b → b < 58 → ⊥
+-- a decimal digit's value, or that the byte is none
+abbrev pub TenValue : ℕ → Option ℕ → Type 0
+TenValue b (Some d) = (d < 10) × (48 + d ≡ b)
+TenValue b None = 48 ≤ b → b < 58 → ⊥
 
 abbrev pub AllDigits : Bytes → ℕ → Type 0
 AllDigits word n = (j : ℕ) → j < n → IsDigit (get_or word j 0)
@@ -39,9 +36,9 @@ abbrev pub Decoded : (word out out' : Bytes) → ℕ → Type 0
 Decoded word out out' r = (s : Bytes) → AllBytes s → bytes_text s ≡ word → (r ≡ length s) × (out' ≡ put out 0 s)
 
 -- the number of which the word is the text, or that there is none
-abbrev pub Numbered : Bytes → Decimal → Type 0
-Numbered word (Is v) = Number v × (number_text v ≡ word)
-Numbered word Not = (v : ℕ) → Number v → number_text v ≡ word → ⊥
+abbrev pub Numbered : Bytes → Option ℕ → Type 0
+Numbered word (Some v) = Number v × (number_text v ≡ word)
+Numbered word None = (v : ℕ) → Number v → number_text v ≡ word → ⊥
 
 abbrev pub Spaceless : Bytes → Type 0
 Spaceless s = All (λ b. b ≡ 32 → ⊥) s

@@ -5,18 +5,18 @@ ghost use Rattle.std.specs.Prelude.{◌≡◌, ℕ, ◌+◌, ◌/◌, ◌≤◌,
 ghost use Rattle.lists.specs.Exact.{Exact};
 ghost use Rattle.order.specs.Bytes.{Bytes};
 ghost use Rattle.lines.specs.Grammar.{Parsed, ◌␣◌, new_word, put_word};
-ghost use Rattle.lines.specs.Pieces.{AllDigits, Cut, Decoded, HexValue, IsBytes, Numbered, OneKey, TenValue};
+ghost use Rattle.lines.specs.Pieces.{Cut, Decoded, HexValue, IsBytes, Numbered, OneKey, TenValue};
 
-// The three numbers of `new`.
-#[derive(Clone, Copy)]
+/// The three numbers of `new`.
+#[derive(Clone, Copy, Debug, PartialEq, Eq)]
 pub struct Sizes {
     pub fanout: usize,
     pub pool: usize,
     pub arena: usize,
 }
 
-// What a line says. The numbers of a key and a value are their lengths in the lent buffers.
-#[derive(Clone, Copy)]
+/// What a line says. The numbers of a key and a value are their lengths in the lent buffers.
+#[derive(Clone, Copy, Debug, PartialEq, Eq)]
 pub enum Line {
     New(Sizes),
     Put(usize, usize),
@@ -24,62 +24,28 @@ pub enum Line {
     Del(usize),
     Next(usize),
     Leaves,
-    Bad,
 }
 
-#[derive(Clone, Copy)]
-enum Decimal {
-    Is(usize),
-    Not,
-}
-
-// The value of a hexadecimal digit in lower case; 16 for any other byte.
-fn hex_value(b: u8) -> u8
+// The value of a hexadecimal digit in lower case.
+fn hex_value(b: u8) -> Option<u8>
     ensures { HexValue b result }
 {
-    if b < 48 {
-        return 16;
+    match b {
+        b'0'..=b'9' => Some(b - b'0'),
+        b'a'..=b'f' => Some(b - b'a' + 10),
+        _ => None,
     }
-    if b < 58 {
-        return b - 48;
-    }
-    if b < 97 {
-        return 16;
-    }
-    if b < 103 {
-        return b - 87;
-    }
-    16
-}
-
-// Every byte is a digit.
-fn all_hex(word: &[u8]) -> bool
-    ensures { Exact result (AllDigits word.now (length word.now)) }
-{
-    let mut i = 0;
-    while i < word.len() {
-        if hex_value(word[i]) == 16 {
-            return false;
-        }
-        i += 1;
-    }
-    true
 }
 
 // The word is the text of some bytes.
 fn is_bytes(word: &[u8]) -> bool
     ensures { Exact result (IsBytes word.now) }
 {
-    if word.len() == 0 {
-        return false;
+    match word.len() {
+        0 => false,
+        1 => word[0] == b'-',
+        n => n % 2 == 0 && word.iter().all(|&b| hex_value(b).is_some()),
     }
-    if word.len() == 1 {
-        return word[0] == b'-';
-    }
-    if word.len() % 2 == 1 {
-        return false;
-    }
-    all_hex(word)
 }
 
 // The bytes of a word, at the output's front. `-` has no pair of digits: nothing is written.
@@ -88,183 +54,143 @@ fn decode(word: &[u8], out: &mut [u8]) -> usize
     ensures { Decoded word.now out.old out.new result }
 {
     let n = word.len() / 2;
-    let mut i = 0;
-    while i < n {
-        let high = hex_value(word[2 * i]);
-        let low = hex_value(word[2 * i + 1]);
+    for i in 0..n {
+        let high = hex_value(word[2 * i]).unwrap();
+        let low = hex_value(word[2 * i + 1]).unwrap();
         out[i] = high * 16 + low;
-        i += 1;
     }
     n
 }
 
-// The value of a decimal digit; 10 for any other byte.
-fn ten_value(b: u8) -> usize
+// The value of a decimal digit.
+fn ten_value(b: u8) -> Option<usize>
     ensures { TenValue b result }
 {
-    if 57 < b {
-        return 10;
+    match b {
+        b'0'..=b'9' => Some((b - b'0') as usize),
+        _ => None,
     }
-    if 47 < b {
-        return (b - 48) as usize;
-    }
-    10
 }
 
 // The number of a word of 1 to 9 digits that does not start with 0.
-fn counted(word: &[u8]) -> Decimal
+fn counted(word: &[u8]) -> Option<usize>
     requires { (0 < length word.now) × (length word.now ≤ 9) × (get_or word.now 0 0 ≡ 48 → ⊥) }
     ensures { Numbered word.now result }
 {
-    let mut v = ten_value(word[0]);
-    if v == 10 {
-        return Decimal::Not;
+    let mut v = ten_value(word[0])?;
+    for i in 1..word.len() {
+        v = v * 10 + ten_value(word[i])?;
     }
-    let mut i = 1;
-    while i < word.len() {
-        let d = ten_value(word[i]);
-        if d == 10 {
-            return Decimal::Not;
-        }
-        v = v * 10 + d;
-        i += 1;
-    }
-    Decimal::Is(v)
+    Some(v)
 }
 
 // The number that a word is the text of.
-fn number(word: &[u8]) -> Decimal
+fn number(word: &[u8]) -> Option<usize>
     ensures { Numbered word.now result }
 {
-    if word.len() == 0 {
-        return Decimal::Not;
+    match word {
+        [] => None,
+        [b'0'] => Some(0),
+        [b'0', ..] => None,
+        _ if 9 < word.len() => None,
+        _ => counted(word),
     }
-    if 9 < word.len() {
-        return Decimal::Not;
-    }
-    let has_leading_zero = word[0] == 48;
-    if has_leading_zero {
-        if word.len() == 1 {
-            return Decimal::Is(0);
-        }
-        return Decimal::Not;
-    }
-    counted(word)
 }
 
 // The place of the first space, or the length.
 fn word_end(line: &[u8]) -> usize
     ensures { Cut line.now result }
 {
-    let mut i = 0;
-    while i < line.len() {
-        if line[i] == b' ' {
-            return i;
-        }
-        i += 1;
-    }
-    i
-}
-
-fn same(a: &[u8], b: &[u8]) -> bool
-    ensures { Exact result (a.now ≡ b.now) }
-{
-    match order::compare(a, b) {
-        order::Ordering::Equal => true,
-        order::Ordering::Less => false,
-        order::Ordering::Greater => false,
-    }
+    line.iter().position(|&b| b == b' ').unwrap_or(line.len())
 }
 
 // What the line `new` with these words behind it says.
-fn parse_new(words: &[u8]) -> Line
+fn parse_new(words: &[u8]) -> Option<Line>
     requires { 4 + length words.now ≤ 4096 }
     ensures { (key value : Bytes) → Parsed (new_word ␣ words.now) key key value value result }
 {
     let e = word_end(words);
     if e == words.len() {
-        return Line::Bad;
+        return None;
     }
     let rest = &words[e + 1..];
     let m = word_end(rest);
     if m == rest.len() {
-        return Line::Bad;
+        return None;
     }
-    let Decimal::Is(fanout) = number(&words[0..e]) else {
-        return Line::Bad;
-    };
-    let Decimal::Is(pool) = number(&rest[0..m]) else {
-        return Line::Bad;
-    };
-    let Decimal::Is(arena) = number(&rest[m + 1..]) else {
-        return Line::Bad;
-    };
-    Line::New(Sizes {
-        fanout: fanout,
-        pool: pool,
-        arena: arena,
-    })
+    let fanout = number(&words[..e])?;
+    let pool = number(&rest[..m])?;
+    let arena = number(&rest[m + 1..])?;
+    Some(Line::New(Sizes {
+        fanout,
+        pool,
+        arena,
+    }))
 }
 
 // What the line `put` with these words behind it says.
-fn parse_put(words: &[u8], key: &mut [u8], value: &mut [u8]) -> Line
+fn parse_put(words: &[u8], key: &mut [u8], value: &mut [u8]) -> Option<Line>
     requires { (4 + length words.now ≤ 4096) × (2048 ≤ length key.old) × (2048 ≤ length value.old) }
     ensures { Parsed (put_word ␣ words.now) key.old key.new value.old value.new result }
 {
     let e = word_end(words);
     if e == words.len() {
-        return Line::Bad;
+        return None;
     }
-    if !is_bytes(&words[0..e]) {
-        return Line::Bad;
+    if !is_bytes(&words[..e]) {
+        return None;
     }
     if !is_bytes(&words[e + 1..]) {
-        return Line::Bad;
+        return None;
     }
-    let n = decode(&words[0..e], key);
+    let n = decode(&words[..e], key);
     let m = decode(&words[e + 1..], value);
-    Line::Put(n, m)
+    Some(Line::Put(n, m))
 }
 
 // What the line of a command other than `new` and `put`, with one word behind it, says.
-fn parse_key(command: &[u8], word: &[u8], key: &mut [u8]) -> Line
+fn parse_key(command: &[u8], word: &[u8], key: &mut [u8]) -> Option<Line>
     requires { OneKey command.now word.now × (2048 ≤ length key.old) }
     ensures { (value : Bytes) → Parsed (command.now ␣ word.now) key.old key.new value value result }
 {
     if !is_bytes(word) {
-        return Line::Bad;
+        return None;
     }
-    if same(command, b"get") {
-        return Line::Get(decode(word, key));
+    if command == b"get".as_slice() {
+        return Some(Line::Get(decode(word, key)));
     }
-    if same(command, b"del") {
-        return Line::Del(decode(word, key));
+    if command == b"del".as_slice() {
+        return Some(Line::Del(decode(word, key)));
     }
-    if same(command, b"next") {
-        return Line::Next(decode(word, key));
+    if command == b"next".as_slice() {
+        return Some(Line::Next(decode(word, key)));
     }
-    Line::Bad
+    None
 }
 
-pub fn parse(line: &[u8], key: &mut [u8], value: &mut [u8]) -> Line
+/// What a line says; `None` if it is no command's text, or longer than 4,096 bytes.
+pub fn parse(line: &[u8], key: &mut [u8], value: &mut [u8]) -> Option<Line>
     requires { (2048 ≤ length key.old) × (2048 ≤ length value.old) }
     ensures { Parsed line.now key.old key.new value.old value.new result }
 {
     if 4096 < line.len() {
-        return Line::Bad;
+        return None;
     }
     let e = word_end(line);
     if e == line.len() {
-        if same(line, b"leaves") {
-            return Line::Leaves;
-        }
-        return Line::Bad;
+        return if line == b"leaves".as_slice() {
+            Some(Line::Leaves)
+        } else {
+            None
+        };
     }
-    if same(&line[0..e], b"put") {
-        return parse_put(&line[e + 1..], key, value);
+    let command = &line[..e];
+    let words = &line[e + 1..];
+    if command == b"put".as_slice() {
+        return parse_put(words, key, value);
     }
-    if same(&line[0..e], b"new") {
-        return parse_new(&line[e + 1..]);
+    if command == b"new".as_slice() {
+        return parse_new(words);
     }
-    parse_key(&line[0..e], &line[e + 1..], key)
+    parse_key(command, words, key)
 }

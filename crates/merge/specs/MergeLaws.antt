@@ -2,7 +2,7 @@
 -- regained, and the leaf list left is the merged one.
 -- Assumes nothing.
 use Rattle.std.specs.Prelude.{ℕ, suc, ◌+◌, ◌-◌, ◌*◌, ◌≤◌, ◌<◌, List, [], ◌++◌, ◌≡◌, drop, get_or, length, take}
-use Rattle.std.proofs.Common.{◌∙◌, ap, subst, sym, arith}
+use Rattle.std.proofs.Common.{◌∙◌, ap, subst, sym, arith, Option}
 use Rattle.directory.specs.Used.{lent, used_from, used_to, word_at}
 use Rattle.layout.proofs.AroundLaws.{lays_of}
 use Rattle.layout.specs.Frames.{WordsIn}
@@ -11,10 +11,11 @@ use Rattle.layout.specs.LaysLaws.{prefixes_at}
 use Rattle.layout.proofs.LaysWords.{holds_long}
 use Rattle.layout.specs.Order.{leaf_words, words_of}
 use Rattle.layout.specs.Presumed.{Presumed}
+use Rattle.layout.specs.Viewed.{Views, leaves_of, view_held}
 use Rattle.layout.specs.declared.Header.{Header}
+use Rattle.layout.specs.declared.lent.View.{View}
 use Rattle.leaf.specs.Keys.{PrefixOf}
 use Rattle.leaf.specs.declared.Leaf.{Leaf}
-use Rattle.leaf.specs.declared.Upper.{Upper}
 use Rattle.lists.specs.All.{all_mono}
 use Rattle.lists.proofs.PartLaws.{length-part}
 use Rattle.model.specs.Charge.{charge, stored}
@@ -30,7 +31,7 @@ use Rattle.order.specs.OrderLaws.{below_asym}
 use Rattle.regrow.specs.Merge.{CanMerge, Merged, Merges}
 use Rattle.regrow.specs.MergeLaws.{merges_at}
 use Rattle.room.specs.RoomMet.{presumed_apart}
-use Rattle.route.specs.RouteLaws.{leaf_lays, low_from, low_key_at, low_key_is, upper_is}
+use Rattle.route.specs.RouteLaws.{leaf_lays, leaf_told, low_from, low_key_at, low_key_is, upper_is}
 use Rattle.route.specs.Routes.{LeafIs, UpperRead, leaf_at, low_place, prefix_at, upper_of}
 use Rattle.words.specs.Words.{LowKeyUnpacked, word_count}
 use Rattle.words.specs.declared.LowKey.{LowKey}
@@ -87,7 +88,7 @@ module _ {h : Header} {dir slots arena : List ℕ} {ns : List Node} (x : Presume
       (taken_prefix ns j) top (rw q kept_shorter) kept_same ends (rw q room))
 
 -- the prefix length kept, as it is read
-pub kept_read : {h : Header} {dir slots arena : List ℕ} {j next : ℕ} {low : LowKey} {r : ℕ} (upper : Upper) → next ≡ suc j → suc j < h.leaves
+pub kept_read : {h : Header} {dir slots arena : List ℕ} {j next : ℕ} {low : LowKey} {r : ℕ} (upper : Option LowKey) → next ≡ suc j → suc j < h.leaves
     → LowKeyUnpacked (get_or slots (low_place h dir j) 0) low → UpperRead h dir slots next upper → PrefixOf arena low upper r
     → (ns : List Node) → Presumed h dir slots arena ns → r ≡ taken_prefix ns j
 kept_read {j = j} {next = next} upper e k u v p ns x =
@@ -98,6 +99,12 @@ pub record ReadNext (h : Header) (dir slots arena : List ℕ) (j next : ℕ) (le
   pub next_is : next ≡ suc j
   pub leaf_is : (ns : List Node) → Presumed h dir slots arena ns → LeafIs h dir ns next leaf
   pub kept_is : (ns : List Node) → Presumed h dir slots arena ns → kept ≡ taken_prefix ns j
+
+-- (on a view)
+pub read_next : {h : Header} {dir slots arena : List ℕ} {j next : ℕ} {leaf : Leaf} {kept : ℕ} (w : View) → Views w h dir slots arena → next ≡ suc j
+    → LeafIs w.header w.dir.now (leaves_of w) next leaf → kept ≡ taken_prefix (leaves_of w) j → ReadNext h dir slots arena j next leaf kept
+read_next {j = j} {kept = kept} w u e l k =
+    record { next_is = e; leaf_is = leaf_told w u l; kept_is = view_held (λ h dir slots arena ns. kept ≡ taken_prefix ns j) w u k }
 
 module _ {h : Header} {dir slots arena : List ℕ} {j next : ℕ} {leaf : Leaf} {kept : ℕ} (v : ReadNext h dir slots arena j next leaf kept) where
   module _ {ns : List Node} (x : Presumed h dir slots arena ns) (a : MergeAsked j ns) where

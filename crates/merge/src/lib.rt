@@ -2,24 +2,25 @@
 #![tactic(auto)]
 
 ghost use Rattle.std.specs.Prelude.{◌<◌, suc, ◌≡◌};
-ghost use Rattle.layout.specs.Presumed.{Index, Inner};
+ghost use Rattle.layout.specs.Viewed.{leaves_of};
 ghost use Rattle.merge.specs.Behind.{CanRoomBehind, RoomBehind, taken_prefix};
 ghost use Rattle.merge.specs.Merges.{CanMergeLeaf, MergedLeaf};
 
 use layout::Header;
+use layout::lent::View;
 use leaf::prefix_length;
 use regrow::merge_from;
 use room::make_room;
 use route::{leaf_of, low_key, upper_key};
 
 // The prefix length of the j-th leaf with the next one's upper key (L2).
-fn taken_prefix(h: Header, dir: &[u32], slots: &[u64], arena: &[u8], j: usize) -> usize
-    requires { Index h dir.now slots.now arena.now × (suc j < h.leaves) }
-    ensures { Inner h dir.now slots.now arena.now (λ ns. result ≡ taken_prefix ns j) }
+fn taken_prefix(v: &View<'_>, j: usize) -> usize
+    requires { suc j < v.now.header.leaves }
+    ensures { result ≡ taken_prefix (leaves_of v.now) j }
 {
-    let low = low_key(h.fanout, slots, dir[j]);
-    let upper = upper_key(h, dir, slots, j + 1);
-    prefix_length(arena, low, upper)
+    let low = low_key(v.header.fanout, v.slots, v.dir[j]);
+    let upper = upper_key(v.header, v.dir, v.slots, j + 1);
+    prefix_length(v.arena, low, upper)
 }
 
 // Behind the last pair of the j-th leaf, room for g bytes to each of its pairs. Nothing is moved where none is needed.
@@ -51,16 +52,16 @@ pub fn merge_leaf(
     ensures { MergedLeaf h dir.old slots.old arena.old j result dir.new slots.new arena.new }
 {
     let next = j + 1;
-    let neighbour = leaf_of(h, dir, slots, arena, next);
-    let kept = taken_prefix(h, dir, slots, arena, j);
+    let view = View::new(h, dir, slots, arena);
+    let neighbour = leaf_of(&view, next);
+    let kept = taken_prefix(&view, j);
     let freed = low_key(h.fanout, slots, dir[next]);
-    let q = neighbour.prefix_length;
-    room_behind(h, dir, slots, arena, next, neighbour.pairs, q - kept);
-    merge_from(dir, slots, arena, h.fanout, h.leaves, j, q, kept);
+    let old = neighbour.prefix_length;
+    room_behind(h, dir, slots, arena, next, neighbour.pairs, old - kept);
+    merge_from(dir, slots, arena, h.fanout, h.leaves, j, old, kept);
     Header {
-        fanout: h.fanout,
         leaves: h.leaves - 1,
-        pairs: h.pairs,
         charge: h.charge - freed.length,
+        ..h
     }
 }

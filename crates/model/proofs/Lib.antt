@@ -17,3 +17,4 @@ pub mod SplitInsert
 pub mod StartLaws
 pub mod SplitLaws
 pub mod StoredRules
+pub mod ToldLaws

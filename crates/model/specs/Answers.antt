@@ -1,6 +1,7 @@
 -- The answer of each call on a leaf list: the refusals in the order of document 01's table, then the ordered map's answer on all pairs.
 -- (Refusal 2 is about the buffers that hold the list, and comes before all of these.)
-use Rattle.std.specs.Prelude.{ℕ, zero, suc, ◌*◌, Bool, true, false, not, ◌&&◌, List, [], ◌∷◌, ◌≡◌, ltb, leb, eqb, length}
+use Rattle.std.specs.Prelude.{ℕ, zero, suc, ◌*◌, Bool, true, false, not, ◌&&◌, List, [], ◌∷◌, ◌≡◌, ltb, leb, eqb, length, Err, None, Ok, Some}
+use Rattle.std.proofs.Common as rust
 use Rattle.std.proofs.Math.Option.{Option, none, some}
 use Rattle.order.specs.Bytes.{Bytes, cmp}
 use Rattle.model.specs.declared.Bound.{Bound}
@@ -36,6 +37,17 @@ length_of InvertedRange = none
 length_of NoLeaf = none
 length_of NoRoom = none
 
+-- the same length as Rust's own type has it
+abbrev pub length_told : Refusal → rust.Option ℕ
+length_told Shape = None
+length_told Damaged = None
+length_told LongKey = None
+length_told LongValue = None
+length_told (ShortOutput n) = Some n
+length_told InvertedRange = None
+length_told NoLeaf = None
+length_told NoRoom = None
+
 pub data Answer (A : Type 0) : Type 0 where
   refused : Refusal → Answer A
   accepted : A → Answer A
@@ -54,6 +66,15 @@ no_refusal = record { number = 0; length = none }
 abbrev pub answer_code : {A : Type 0} → Answer A → Code
 answer_code (refused x) = code_of x
 answer_code (accepted a) = no_refusal
+
+-- an answer as Rust's Result, what is accepted told by f, and the number of a Result
+abbrev pub told : {A B : Type 0} → (A → B) → Answer A → rust.Result B Refusal
+told f (refused x) = Err x
+told f (accepted a) = Ok (f a)
+
+abbrev pub result_code : {B : Type 0} → rust.Result B Refusal → Code
+result_code (Ok b) = no_refusal
+result_code (Err x) = code_of x
 
 -- a call's answer r is the one told, and has its number
 pub record Gives {R : Type 0} (code_in : R → Code) (told : R) (code : Code) (r : R) : Type 0 where

@@ -30,28 +30,24 @@ fn with_bit(w: u64, b: usize) -> u64
 fn first_unmarked(seen: &[u64; 64]) -> usize
     ensures { FirstUnmarked seen.now result }
 {
-    let mut i = 0;
-    while i < NUMBERS {
+    for i in 0..NUMBERS {
         if !has_bit(seen[i / WORD_BITS], i % WORD_BITS) {
             return i;
         }
-        i += 1;
     }
-    i
+    NUMBERS
 }
 
-// L6. All 4,096 numbers in use: 4,096.
+// L6. With all 4,096 numbers in use it is 4,096, which no leaf has either.
 pub fn lowest_free(dir: &[u32], leaves: usize) -> LeafNo
     requires { leaves ≤ length dir.now }
     ensures { FreeRead leaves dir.now result.0 }
 {
     let mut seen = [0u64; 64];
-    let mut j = 0;
-    while j < leaves {
-        let n = leaf_number(dir[j]).0;
+    for &word in &dir[..leaves] {
+        let n = leaf_number(word).0;
         let at = n / WORD_BITS;
         seen[at] = with_bit(seen[at], n % WORD_BITS);
-        j += 1;
     }
     LeafNo(first_unmarked(&seen))
 }

@@ -1,8 +1,8 @@
 -- Byte strings, their order, their common front and their separator.
 -- A byte string is a list of numbers. That each is below 256 plays no part in the order.
 use Rattle.std.specs.Prelude.{ℕ, suc, cond, List, [], ◌∷◌, ◌≡◌, ltb, eqb, take}
-use Rattle.order.specs.declared.Ordering.{Ordering}
-use Rattle.order.specs.declared.Ordering.TheVariants.{Less, Equal, Greater}
+use Rattle.std.specs.declared.cmp.Ordering.{Ordering}
+use Rattle.std.specs.declared.cmp.Ordering.TheVariants.{Less, Equal, Greater}
 
 infix 40 ◌≺◌
 infix 40 ◌≼◌

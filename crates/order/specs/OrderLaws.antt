@@ -4,8 +4,8 @@
 use Rattle.std.specs.Prelude.{ℕ, ◌<◌, [], ◌∷◌, ◌++◌, ◌≡◌, refl, ◌⊎◌, take, drop}
 use Rattle.std.proofs.Common.{sym, ap, ◌∙◌, inl, inr, arith, lt-ltb, le-ltb, take-append-drop}
 use Rattle.std.proofs.Math.Decide.{dec_lt}
-use Rattle.order.specs.declared.Ordering.{Ordering}
-use Rattle.order.specs.declared.Ordering.TheVariants.{Less, Equal, Greater}
+use Rattle.std.specs.declared.cmp.Ordering.{Ordering}
+use Rattle.std.specs.declared.cmp.Ordering.TheVariants.{Less, Equal, Greater}
 use Rattle.order.specs.Bytes.{Bytes, cmp, ◌≺◌, ◌≼◌}
 
 -- two numbers, one of three ways

@@ -6,50 +6,16 @@ ghost use Rattle.std.specs.Prelude.{◌≡◌};
 ghost use Rattle.order.specs.Bytes.{common};
 ghost use Rattle.order.specs.Compared.{Compared};
 
-#[derive(Clone, Copy)]
-pub enum Ordering {
-    Less,
-    Equal,
-    Greater,
-}
+use std::cmp::Ordering;
 
 pub fn compare(a: &[u8], b: &[u8]) -> Ordering
     ensures { Compared a.now b.now result }
 {
-    let mut i = 0;
-    while i < a.len() {
-        if i == b.len() {
-            return Ordering::Greater;
-        }
-        let x = a[i];
-        let y = b[i];
-        if x < y {
-            return Ordering::Less;
-        }
-        if y < x {
-            return Ordering::Greater;
-        }
-        i += 1;
-    }
-    if i == b.len() {
-        Ordering::Equal
-    } else {
-        Ordering::Less
-    }
+    a.cmp(b)
 }
 
 pub fn common(a: &[u8], b: &[u8]) -> usize
     ensures { result ≡ common a.now b.now }
 {
-    let mut i = 0;
-    while i < a.len() {
-        if i == b.len() {
-            return i;
-        }
-        if a[i] != b[i] {
-            return i;
-        }
-        i += 1;
-    }
-    i
+    a.iter().zip(b).take_while(|(x, y)| x == y).count()
 }

@@ -4,6 +4,7 @@
 ghost use Rattle.pair_edit.specs.PairEdits.{CanInsert, CanRemove, CanReplace, InsertedPair, RemovedPair, ReplacedPair};
 
 use layout::Header;
+use layout::lent::View;
 use room::make_room;
 use route::leaf_of;
 use slots::{put_in, replace_value, take_out};
@@ -22,19 +23,17 @@ pub fn insert_pair(
     requires { CanInsert h dir.old slots.old arena.old key.now value.now t }
     ensures { InsertedPair h dir.old slots.old arena.old key.now value.now t result dir.new slots.new arena.new }
 {
-    let j = t.leaf;
-    let i = t.slot;
-    let leaf = leaf_of(h, dir, slots, arena, j);
-    let p = leaf.prefix_length;
-    let suffix = &key[p..];
+    let leaf = leaf_of(&View::new(h, dir, slots, arena), t.leaf);
+    let suffix = &key[leaf.prefix_length..];
     let need = suffix.len() + value.len();
-    let at = make_room(dir, slots, arena, h.fanout, h.leaves, j, i, need);
-    put_in(dir, slots, arena, h.fanout, j, i, at, suffix, value);
+    let at = make_room(dir, slots, arena, h.fanout, h.leaves, t.leaf, t.slot, need);
+    put_in(
+        dir, slots, arena, h.fanout, t.leaf, t.slot, at, suffix, value,
+    );
     Header {
-        fanout: h.fanout,
-        leaves: h.leaves,
         pairs: h.pairs + 1,
         charge: h.charge + key.len() + value.len(),
+        ..h
     }
 }
 
@@ -43,15 +42,13 @@ pub fn remove_pair(h: Header, dir: &mut [u32], slots: &mut [u64], arena: &[u8], 
     requires { CanRemove h dir.old slots.old arena.now t }
     ensures { RemovedPair h dir.old slots.old arena.now t result dir.new slots.new }
 {
-    let x = read_spot(h, dir, slots, arena, t);
-    let s = x.slot;
-    let size = x.prefix + s.suffix + s.value;
+    let x = read_spot(&View::new(h, dir, slots, arena), t);
+    let size = x.prefix + x.slot.suffix + x.slot.value;
     take_out(dir, slots, h.fanout, t.leaf, t.slot);
     Header {
-        fanout: h.fanout,
-        leaves: h.leaves,
         pairs: h.pairs - 1,
         charge: h.charge - size,
+        ..h
     }
 }
 
@@ -67,15 +64,10 @@ pub fn replace_pair(
     requires { CanReplace h dir.now slots.old arena.old value.now t }
     ensures { ReplacedPair h dir.now slots.old arena.old value.now t result slots.new arena.new }
 {
-    let x = read_spot(h, dir, slots, arena, t);
-    let s = x.slot;
-    let old = s.value;
-    let j = t.leaf;
-    replace_value(slots, arena, h.fanout, dir[j], t.slot, value);
+    let x = read_spot(&View::new(h, dir, slots, arena), t);
+    replace_value(slots, arena, h.fanout, dir[t.leaf], t.slot, value);
     Header {
-        fanout: h.fanout,
-        leaves: h.leaves,
-        pairs: h.pairs,
-        charge: h.charge - old + value.len(),
+        charge: h.charge - x.slot.value + value.len(),
+        ..h
     }
 }

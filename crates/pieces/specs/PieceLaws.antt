@@ -7,8 +7,8 @@ use Rattle.lists.specs.Part.{put}
 use Rattle.order.specs.Bytes.{Bytes, cmp}
 use Rattle.order.specs.Compared.{Compared}
 use Rattle.order.specs.OrderLaws.{cmp_front, cmp_level, cmp_lower, cmp_same, cmp_upper, heads, level, lower, upper}
-use Rattle.order.specs.declared.Ordering.{Ordering}
-use Rattle.order.specs.declared.Ordering.TheVariants.{Equal, Greater, Less}
+use Rattle.std.specs.declared.cmp.Ordering.{Ordering}
+use Rattle.std.specs.declared.cmp.Ordering.TheVariants.{Equal, Greater, Less}
 
 -- a key shorter than the first piece
 

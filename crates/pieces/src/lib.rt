@@ -5,8 +5,9 @@ ghost use Rattle.std.specs.Prelude.{◌≡◌, ◌++◌, ◌+◌, ◌≤◌, len
 ghost use Rattle.lists.specs.Part.{put};
 ghost use Rattle.order.specs.Compared.{Compared};
 
-use moves::copy_bytes;
-use order::{Ordering, compare};
+use moves::copy_into;
+use order::compare;
+use std::cmp::Ordering;
 
 // A whole key may be shorter than the prefix, or differ within it: only behind an equal front does the suffix count.
 pub fn compare_pieces(prefix: &[u8], suffix: &[u8], key: &[u8]) -> Ordering
@@ -16,11 +17,7 @@ pub fn compare_pieces(prefix: &[u8], suffix: &[u8], key: &[u8]) -> Ordering
     if key.len() < p {
         return compare(prefix, key);
     }
-    match compare(prefix, &key[0..p]) {
-        Ordering::Less => Ordering::Less,
-        Ordering::Equal => compare(suffix, &key[p..]),
-        Ordering::Greater => Ordering::Greater,
-    }
+    compare(prefix, &key[..p]).then_with(|| compare(suffix, &key[p..]))
 }
 
 // Prefix, then suffix, at the output's front; the rest of the output stays.
@@ -29,6 +26,6 @@ pub fn write_pieces(prefix: &[u8], suffix: &[u8], out: &mut [u8])
     ensures { out.new ≡ put out.old 0 (prefix.now ++ suffix.now) }
 {
     let p = prefix.len();
-    copy_bytes(out, 0, prefix);
-    copy_bytes(&mut out[p..], 0, suffix);
+    copy_into(out, 0, prefix);
+    copy_into(&mut out[p..], 0, suffix);
 }

@@ -1,5 +1,6 @@
--- The steps of `end_length`, `write_end` and `scan_prefix`, over plain lists and numbers.
+-- The steps of `write_end` and `scan_prefix`, over plain lists and numbers.
 -- Assumes nothing.
+use Rattle.std.specs.Prelude.{Ok, Err}
 use Prim.Native.Nat.{ℕ, suc, ◌+◌, ◌-◌, ◌<◌, ◌≤◌}
 use mathlib.Core.Bool.{false}
 use mathlib.Core.List.{[], ◌++◌, ◌∷◌}
@@ -8,9 +9,8 @@ use mathlib.Core.Path.{◌∙◌, ◌≡◌, ap, refl, sym}
 use native.Mathlib.Omega.{arith}
 use borrow.Author.Tests.{le-ltb, lt-ltb}
 use lib.Dec.{ltb}
-use lib.ListN.{drop, get_or, length, set, take}
-use lib.Seq.{drop-cons, drop-length, length-take-le}
-use Rattle.lists.specs.All.{All}
+use lib.ListN.{get_or, length, set, take}
+use lib.Seq.{length-take-le}
 use Rattle.lists.specs.Part.{put}
 use Rattle.lists.proofs.PartLaws.{put-nil, put-snoc}
 use Rattle.model.specs.Answers.{code_of}
@@ -19,21 +19,9 @@ use Rattle.model.specs.Prefix.{prefix_end}
 use Rattle.model.specs.declared.Bound.TheVariants.{Excluded, Included, Open}
 use Rattle.model.specs.declared.Refusal.TheVariants.{LongKey, ShortOutput}
 use Rattle.order.specs.Bytes.{Bytes}
-use Rattle.prefixes.specs.End.{Full, Stripped, end_bytes, raised_at}
+use Rattle.prefixes.specs.End.{Stripped, end_bytes, raised_at}
 use Rattle.prefixes.specs.EndLaws.{length_raised, stripped_end, stripped_open}
 use Rattle.prefixes.specs.Outcome.{PrefixOutcome}
-use Rattle.prefixes.specs.declared.Prefixed.TheVariants.{Made, Refused}
-
--- end_length: the bytes passed are FF
-
-pub full_start : (p : Bytes) → All Full (drop (length p) p)
-full_start p = rw drop-length tt
-
-pub full_more : (p : Bytes) (n : ℕ) → 0 < n → n ≤ length p → Full (get_or p (n - 1) 0) → All Full (drop n p) → All Full (drop (n - 1) p)
-full_more p n h k x a =
-    let e : suc (n - 1) ≡ n = omega arith in
-    let d : drop (n - 1) p ≡ get_or p (n - 1) 0 ∷ drop n p = drop-cons p (n - 1) 0 (omega arith) ∙ ap (λ (j : ℕ). get_or p (n - 1) 0 ∷ drop j p) e in
-    rw d (x, a)
 
 -- write_end
 
@@ -52,30 +40,30 @@ end_written p out now_out n x s h k e w =
 -- scan_prefix
 
 module _ (p out : Bytes) where
-  pub scan_long : key_limit < length p → PrefixOutcome p out out (Refused LongKey)
+  pub scan_long : key_limit < length p → PrefixOutcome p out out (Err LongKey)
   scan_long h = rw (lt-ltb key_limit (length p) h) (record { answer_is = refl; code_is = refl; out_is = refl })
 
   module _ (n : ℕ) (short : key_limit < length p → ⊥) (s : Stripped p n) where
     passed : ltb key_limit (length p) ≡ false
     passed = le-ltb key_limit (length p) (omega arith)
 
-    pub scan_short : length out < n → PrefixOutcome p out out (Refused (ShortOutput n))
+    pub scan_short : length out < n → PrefixOutcome p out out (Err (ShortOutput n))
     scan_short h =
         let k : 0 < n = omega arith in
         let l : length (raised_at p n) ≡ n = length_raised s k in
         rw (passed, stripped_end s k, lt-ltb (length out) (length (raised_at p n)) (omega arith))
-        (record { answer_is = ap (λ (m : ℕ). Refused (ShortOutput m)) (sym l); code_is = ap (λ (m : ℕ). code_of (ShortOutput m)) (sym l); out_is = refl })
+        (record { answer_is = ap (λ (m : ℕ). Err (ShortOutput m)) (sym l); code_is = ap (λ (m : ℕ). code_of (ShortOutput m)) (sym l); out_is = refl })
 
-    pub scan_open : n ≡ 0 → PrefixOutcome p out out (Made (record { range = record { start = Included; end = Open }; end = 0 }))
+    pub scan_open : n ≡ 0 → PrefixOutcome p out out (Ok (record { range = record { start = Included; end = Open }; end = 0 }))
     scan_open e = rw (passed, stripped_open s e) (record { answer_is = refl; code_is = refl; out_is = sym (put-nil out 0) })
 
     pub scan_made : (now_out : Bytes) → 0 < n → n ≤ length out → now_out ≡ put out 0 (end_bytes (prefix_end p))
-        → PrefixOutcome p out now_out (Made (record { range = record { start = Included; end = Excluded }; end = n }))
+        → PrefixOutcome p out now_out (Ok (record { range = record { start = Included; end = Excluded }; end = n }))
     scan_made now_out k h w =
         let l : length (raised_at p n) ≡ n = length_raised s k in
         rw (passed, stripped_end s k, le-ltb (length out) (length (raised_at p n)) (omega arith))
         (record {
-          answer_is = ap (λ (m : ℕ). Made (record { range = record { start = Included; end = Excluded }; end = m })) (sym l);
+          answer_is = ap (λ (m : ℕ). Ok (record { range = record { start = Included; end = Excluded }; end = m })) (sym l);
           code_is = refl;
           out_is = w ∙ ap (λ (o : Option Bytes). put out 0 (end_bytes o)) (stripped_end s k);
         })

@@ -1,6 +1,6 @@
 -- The range is the right one: of the strings of bytes below 256, exactly those that begin with the prefix are in it.
 -- Assumes nothing.
-use Rattle.std.specs.Prelude.{ℕ, suc, ◌<◌, ◌≤◌, [], ◌∷◌, ◌≡◌, refl, length, take}
+use Rattle.std.specs.Prelude.{ℕ, suc, ◌<◌, ◌≤◌, [], ◌∷◌, ◌≡◌, refl, length, take, Ok, Err}
 use Rattle.std.proofs.Common.{inl, inr, ap, sym, arith, eq-eqb, ne_eqb, take_all}
 use Rattle.std.proofs.Math.Option.{Option, none, some}
 use Rattle.lists.specs.All.{All}
@@ -18,7 +18,6 @@ use Rattle.order.specs.CommonLaws.{apart, even, leveled}
 use Rattle.order.specs.OrderLaws.{below_cons, below_level, below_lower, below_nil, heads, level, lower, nil_upto, not_below_nil, upper}
 use Rattle.prefixes.specs.End.{Begins, Byte, end_bytes}
 use Rattle.prefixes.specs.Outcome.{PrefixOutcome, Written}
-use Rattle.prefixes.specs.declared.Prefixed.TheVariants.{Made, Refused}
 use Rattle.prefixes.specs.declared.Span.{Span}
 
 -- one byte more in front
@@ -102,10 +101,10 @@ size_bytes : (o : Option Bytes) → size_of o ≡ length (end_bytes o)
 size_bytes none = refl
 size_bytes (some e) = refl
 
-not_made : {s : Span} {x : Refusal} → Made s ≡ Refused x → ⊥
+not_made : {s : Span} {x : Refusal} → Ok s ≡ Err x → ⊥
 not_made h = let z : ◌≡◌ {A = ℕ} 0 1 = cc in omega arith
 
-written_exact : (p out now_out : Bytes) (s : Span) (k : Bytes) → All Byte k → Written (record { range = prefix_range (prefix_end p); end = prefix_end p }) out now_out (Made s)
+written_exact : (p out now_out : Bytes) (s : Span) (k : Bytes) → All Byte k → Written (record { range = prefix_range (prefix_end p); end = prefix_end p }) out now_out (Ok s)
     → Exact (in_range s.range p (take s.end now_out) k) (Begins p k)
 written_exact p out now_out s k a w =
     let end : Option Bytes = prefix_end p in
@@ -114,7 +113,7 @@ written_exact p out now_out s k a w =
     let t : take s.end now_out ≡ end_bytes end = rw (n, w.out_is) (part-put out 0 (end_bytes end) (omega arith)) in
     rw (r, t) (range_exact p k a)
 
-pub made_exact : (p out now_out : Bytes) (s : Span) (k : Bytes) → All Byte k → PrefixOutcome p out now_out (Made s)
+pub made_exact : (p out now_out : Bytes) (s : Span) (k : Bytes) → All Byte k → PrefixOutcome p out now_out (Ok s)
     → Exact (in_range s.range p (take s.end now_out) k) (Begins p k)
 made_exact p out now_out s k a o =
     elim (truth (long_key p)) [

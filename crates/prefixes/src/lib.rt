@@ -9,33 +9,25 @@ ghost use Rattle.prefixes.specs.Outcome.{PrefixOutcome};
 
 use leaf::Leaf;
 use model::{Bound, Range, Refusal};
-use moves::copy_bytes;
+use moves::copy_into;
 
-// The range of a prefix, and the length of its end key (0 where the end is open).
-#[derive(Clone, Copy)]
+// The range of a prefix, and how many bytes of its end key were written: 0 where the end is open, which the range's kind says.
+#[derive(Debug, Clone, Copy, PartialEq, Eq)]
 pub struct Span {
     pub range: Range,
     pub end: usize,
-}
-
-#[derive(Clone, Copy)]
-pub enum Prefixed {
-    Made(Span),
-    Refused(Refusal),
 }
 
 // The length of the prefix without its trailing FF bytes: 0 exactly where the end is open.
 fn end_length(prefix: &[u8]) -> usize
     ensures { Stripped prefix.now result }
 {
-    let mut n = prefix.len();
-    while 0 < n {
-        if prefix[n - 1] != 0xff {
-            return n;
+    for n in (0..prefix.len()).rev() {
+        if prefix[n] != 0xff {
+            return n + 1;
         }
-        n -= 1;
     }
-    n
+    0
 }
 
 // The first n bytes of the prefix, the last of them raised by one: it is not FF, so the sum fits.
@@ -44,22 +36,22 @@ fn write_end(prefix: &[u8], n: usize, out: &mut [u8])
     ensures { out.new ≡ put out.old 0 (end_bytes (prefix_end prefix.now)) }
 {
     let last = n - 1;
-    copy_bytes(out, 0, &prefix[..last]);
+    copy_into(out, 0, &prefix[..last]);
     out[last] = prefix[last] + 1;
 }
 
-pub fn scan_prefix(prefix: &[u8], out: &mut [u8]) -> Prefixed
+pub fn scan_prefix(prefix: &[u8], out: &mut [u8]) -> Result<Span, Refusal>
     ensures { PrefixOutcome prefix.now out.old out.new result }
 {
     if Leaf::long_key(prefix.len()) {
-        return Prefixed::Refused(Refusal::LongKey);
+        return Err(Refusal::LongKey);
     }
     let n = end_length(prefix);
     if out.len() < n {
-        return Prefixed::Refused(Refusal::ShortOutput(n));
+        return Err(Refusal::ShortOutput(n));
     }
     if n == 0 {
-        return Prefixed::Made(Span {
+        return Ok(Span {
             range: Range {
                 start: Bound::Included,
                 end: Bound::Open,
@@ -68,7 +60,7 @@ pub fn scan_prefix(prefix: &[u8], out: &mut [u8]) -> Prefixed
         });
     }
     write_end(prefix, n, out);
-    Prefixed::Made(Span {
+    Ok(Span {
         range: Range {
             start: Bound::Included,
             end: Bound::Excluded,

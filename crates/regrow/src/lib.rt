@@ -1,4 +1,5 @@
 // L7: a leaf takes over its right neighbour's pairs, whose suffixes first regain the bytes that the shorter prefix no longer covers.
+// (On parts, and no type with the index as its fact: these functions run in the middle of a change, where the buffers hold none.)
 #![tactic(auto)]
 
 ghost use Rattle.std.specs.Prelude.{◌-◌, ◌≤◌};
@@ -6,10 +7,9 @@ ghost use Rattle.regrow.specs.Merge.{CanMerge, Merged, low_from};
 ghost use Rattle.regrow.specs.Regrow.{CanRegain, CanRegrow, Regained, Regrown};
 
 use directory::take_over;
-use moves::move_bytes;
+use moves::move_within;
 use words::{
-    Offset, Slot, SlotNo, first_slot, leaf_number, low_key_slot, pack_slot, pair_count,
-    unpack_low_key, unpack_slot,
+    LowKey, Offset, Slot, SlotNo, first_slot, leaf_number, low_key_slot, pack_slot, pair_count,
 };
 
 // The i-th pair of a leaf, whose word stands at a place: the pairs before it grow by g bytes each, its own suffix by the g bytes at `from`.
@@ -17,15 +17,14 @@ fn regain(slots: &mut [u64], arena: &mut [u8], at: SlotNo, i: usize, g: usize, f
     requires { CanRegain slots.old arena.old at.0 i g from.0 }
     ensures { Regained slots.old arena.old at.0 i g from.0 slots.new arena.new }
 {
-    let k = at.0;
-    let old = unpack_slot(slots[k]);
+    let old = Slot::from(slots[at.0]);
     let to = old.offset.0 + i * g;
-    move_bytes(arena, old.offset.0, old.suffix + old.value, to + g);
-    move_bytes(arena, from.0, g, to);
-    slots[k] = pack_slot(Slot {
+    move_within(arena, old.offset.0, old.suffix + old.value, to + g);
+    move_within(arena, from.0, g, to);
+    slots[at.0] = pack_slot(Slot {
         offset: Offset(to),
         suffix: old.suffix + g,
-        value: old.value,
+        ..old
     });
 }
 
@@ -35,13 +34,9 @@ pub fn regrow(slots: &mut [u64], arena: &mut [u8], fanout: usize, d: u32, g: usi
     requires { CanRegrow fanout slots.old arena.old d g from.0 }
     ensures { Regrown fanout slots.old arena.old d g from.0 slots.new arena.new }
 {
-    let first = first_slot(fanout, leaf_number(d));
-    let count = pair_count(d);
-    let mut done = 0;
-    while done < count {
-        done += 1;
-        let i = count - done;
-        regain(slots, arena, SlotNo(first.0 + i), i, g, from);
+    let first = first_slot(fanout, leaf_number(d)).0;
+    for i in (0..pair_count(d)).rev() {
+        regain(slots, arena, SlotNo(first + i), i, g, from);
     }
 }
 
@@ -52,9 +47,8 @@ fn shorten_prefix(slots: &mut [u64], arena: &mut [u8], fanout: usize, d: u32, q:
 {
     let is_shorter = kept < q;
     if is_shorter {
-        let place = low_key_slot(fanout, leaf_number(d));
-        let at = place.0;
-        let low = unpack_low_key(slots[at]);
+        let at = low_key_slot(fanout, leaf_number(d)).0;
+        let low = LowKey::from(slots[at]);
         let from = Offset(low.offset.0 + kept);
         regrow(slots, arena, fanout, d, q - kept, from);
     }

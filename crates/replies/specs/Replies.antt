@@ -1,5 +1,5 @@
 -- What the replies ask and write: on an index, the text that the model's answer is told by, from a place of the output on.
-use Rattle.std.specs.Prelude.{ℕ, ◌+◌, ◌≤◌, List, ◌≡◌, length}
+use Rattle.std.specs.Prelude.{ℕ, ◌+◌, ◌≤◌, None, Some, List, ◌≡◌, length}
 use Rattle.answers.specs.Answers.{Wrote}
 use Rattle.layout.specs.Lays.{Holds, W}
 use Rattle.layout.specs.declared.Header.{Header}
@@ -9,7 +9,6 @@ use Rattle.model.specs.Leaves.{Node}
 use Rattle.order.specs.Bytes.{Bytes}
 use Rattle.replies.specs.Texts.{get_text, new_text, next_text}
 use Rattle.replies.specs.declared.Opened.{Opened}
-use Rattle.replies.specs.declared.Opened.TheVariants.{Kept, Made}
 use Rattle.tree_create.specs.Outcomes.{MadeFresh}
 use Rattle.tree_range.specs.Outcomes.{key_told}
 
@@ -34,20 +33,26 @@ pub record NextReply (h : Header) (dir slots arena : List ℕ) (k found out : By
 
 -- `new`: a fresh index, or the buffers as they were
 
+abbrev pub made : Header → (place : ℕ) → Opened
+made h place = record { header = Some h; at = place }
+
+abbrev pub kept : (place : ℕ) → Opened
+kept place = record { header = None; at = place }
+
 abbrev pub new_said : (fanout : ℕ) (dir slots arena : List ℕ) → Bytes
 new_said fanout dir slots arena = new_text (create_answer fanout (length dir) (length slots) (length arena))
 
 pub record Fresh (fanout : ℕ) (dir slots arena out : List ℕ) (at : ℕ) (ns : List Node) (now_dir now_slots now_out : List ℕ) (r : Opened) : Type 0 where
   pub header : Header
   pub place : ℕ
-  pub is : r ≡ Made header place
+  pub is : r ≡ made header place
   pub wrote : Wrote out now_out at (new_said fanout dir slots arena) place
   pub fresh : MadeFresh fanout dir slots now_dir now_slots header
   pub holds : Holds header now_dir now_slots arena ns
 
 pub record Unopened (fanout : ℕ) (dir slots arena out : List ℕ) (at : ℕ) (now_dir now_slots now_out : List ℕ) (r : Opened) : Type 0 where
   pub place : ℕ
-  pub is : r ≡ Kept place
+  pub is : r ≡ kept place
   pub wrote : Wrote out now_out at (new_said fanout dir slots arena) place
   pub dir_is : now_dir ≡ dir
   pub slots_are : now_slots ≡ slots

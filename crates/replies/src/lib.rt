@@ -1,52 +1,36 @@
-// The script program's commands that read an index, and `new`: each makes its call and writes the answer.
+// The script program's commands that read an index, and `new`: each makes its call and writes the answer. (Header and buffers stay apart, as the
+// entry points take them; a lent output and a place in it, since a `String` could run out of memory, and these can't fail.)
 #![tactic(auto)]
 
 ghost use Rattle.std.specs.Prelude.{◌≡◌, ◌+◌, ◌≤◌, length};
 ghost use Rattle.answers.specs.Answers.{Wrote};
-ghost use Rattle.model.specs.Answers.{create_answer, number_of};
-ghost use Rattle.replies.specs.Leaves.{ViewAsked, line_said, viewed};
+ghost use Rattle.leaf.specs.Keys.{KeyAt, UpperAt, key_at, upper_at};
+ghost use Rattle.model.specs.Answers.{create_answer};
+ghost use Rattle.replies.specs.Leaves.{ViewAsked, bytes_of, line_said, viewed};
 ghost use Rattle.replies.specs.Replies.{NewReply, NextReply, ReadAsked, ReadReply, get_said, new_said, next_said};
 ghost use Rattle.replies.specs.Texts.{leaf_text, leaves_text, refusal_text};
 
-use answers::{
-    write_end, write_last_leaf, write_leaf, write_new, write_none, write_pair, write_refused,
-    write_value,
-};
+use answers::{Answer, Leaf, write};
 use layout::Header;
-use leaf::Upper;
 use model::{Bound, Range, Refusal};
-use tree_create::{Change, create};
-use tree_get::{Found, Shown, View, get_value, leaf_at};
-use tree_range::{Scan, get_gt, range_value};
+use tree_create::create;
+use tree_get::{Shown, get, get_value, leaf_at};
+use tree_range::{get_gt, range_value};
+use words::LowKey;
 
-// The header of a `new` index, or none where it was refused; and the place behind what was written.
-#[derive(Clone, Copy)]
-pub enum Opened {
-    Made(Header, usize),
-    Kept(usize),
+/// What a `new` left: the header of the fresh index, unless it was refused, and the place behind what was written.
+#[derive(Debug, Clone, Copy, PartialEq, Eq)]
+pub struct Opened {
+    pub header: Option<Header>,
+    pub at: usize,
 }
 
-// A refusal's number in document 01.
-pub fn number_of(x: Refusal) -> usize
-    ensures { result ≡ number_of x }
-{
-    match x {
-        Refusal::Shape => 1,
-        Refusal::Damaged => 2,
-        Refusal::LongKey => 3,
-        Refusal::LongValue => 4,
-        Refusal::ShortOutput(_) => 5,
-        Refusal::InvertedRange => 6,
-        Refusal::NoLeaf => 7,
-        Refusal::NoRoom => 8,
-    }
-}
-
+/// A refusal is answered by its number.
 pub fn refuse(x: Refusal, out: &mut [u8], at: usize) -> usize
     requires { at + length (refusal_text x) ≤ length out.old }
     ensures { Wrote out.old out.new at (refusal_text x) result }
 {
-    write_refused(out, at, number_of(x))
+    write(out, at, Answer::Refused(x.number()))
 }
 
 // `new`, in buffers lent at their sizes.
@@ -62,11 +46,15 @@ pub fn reply_new(
     ensures { NewReply (create_answer fanout (length dir.old) (length slots.old) (length arena.now)) fanout dir.old slots.old arena.now out.old at dir.new slots.new out.new result }
 {
     let r = create(fanout, dir, slots, arena);
-    let header = r.header;
-    let answer = r.answer;
-    match answer {
-        Change::Done => Opened::Made(header, write_new(out, at)),
-        Change::Refused(x) => Opened::Kept(refuse(x, out, at)),
+    match r.answer {
+        Ok(()) => Opened {
+            header: Some(r.header),
+            at: write(out, at, Answer::Made),
+        },
+        Err(x) => Opened {
+            header: None,
+            at: refuse(x, out, at),
+        },
     }
 }
 
@@ -83,10 +71,13 @@ pub fn reply_get(
     requires { ReadAsked h dir.now slots.now arena.now (get_said key.now) out.old at }
     ensures { ReadReply h dir.now slots.now arena.now (get_said key.now) out.old at out.new result }
 {
-    match tree_get::get(h, dir, slots, arena, key) {
-        Found::At(_, _) => write_value(out, at, get_value(h, dir, slots, arena, key)),
-        Found::Nothing => write_none(out, at),
-        Found::Refused(x) => refuse(x, out, at),
+    match get(h, dir, slots, arena, key) {
+        Ok(Some(_)) => {
+            let value = get_value(h, dir, slots, arena, key);
+            write(out, at, Answer::Value(value))
+        },
+        Ok(None) => write(out, at, Answer::Nothing),
+        Err(x) => refuse(x, out, at),
     }
 }
 
@@ -105,44 +96,49 @@ pub fn reply_next(
     ensures { NextReply h dir.now slots.now arena.now key.now found.old out.old at found.new out.new result }
 {
     match get_gt(h, dir, slots, arena, key, found) {
-        Scan::Pair(x) => {
-            let n = x.key;
+        Ok(Some(x)) => {
             let above = Range {
                 start: Bound::Excluded,
                 end: Bound::Open,
             };
             let value = range_value(h, dir, slots, arena, above, key, key);
-            write_pair(out, at, &found[0..n], value)
+            write(out, at, Answer::Pair(&found[..x.key], value))
         }
-        Scan::End => write_end(out, at),
-        Scan::Refused(x) => refuse(x, out, at),
+        Ok(None) => write(out, at, Answer::End),
+        Err(x) => refuse(x, out, at),
+    }
+}
+
+fn key_of(arena: &[u8], k: LowKey) -> &[u8]
+    requires { KeyAt arena.now 0 k }
+    ensures { result.now ≡ key_at arena.now k }
+{
+    let from = k.offset.0;
+    &arena[from..from + k.length]
+}
+
+fn upper_of(arena: &[u8], upper: Option<LowKey>) -> Option<&[u8]>
+    requires { UpperAt arena.now 0 upper }
+    ensures { bytes_of result ≡ upper_at arena.now upper }
+{
+    match upper {
+        Some(k) => Some(key_of(arena, k)),
+        None => None,
     }
 }
 
 // One line of `leaves`.
-fn write_view(arena: &[u8], v: View, out: &mut [u8], at: usize) -> usize
+fn write_view(arena: &[u8], v: Shown, out: &mut [u8], at: usize) -> usize
     requires { ViewAsked arena.now v out.old at }
     ensures { Wrote out.old out.new at (leaf_text (viewed arena.now v)) result }
 {
-    let low = v.low;
-    let upper = v.upper;
-    let from = low.offset.0;
-    let end = from + low.length;
-    match upper {
-        Upper::At(k) => {
-            let a = k.offset.0;
-            let b = a + k.length;
-            write_leaf(
-                out,
-                at,
-                &arena[from..end],
-                &arena[a..b],
-                v.prefix_length,
-                v.pairs,
-            )
-        }
-        Upper::Nothing => write_last_leaf(out, at, &arena[from..end], v.prefix_length, v.pairs),
-    }
+    let leaf = Leaf {
+        low: key_of(arena, v.low),
+        upper: upper_of(arena, v.upper),
+        prefix: v.prefix_length,
+        pairs: v.pairs,
+    };
+    write(out, at, Answer::Leaf(leaf))
 }
 
 // The line of one place, nothing behind the last leaf.
@@ -159,9 +155,9 @@ fn reply_leaf(
     ensures { ReadReply h dir.now slots.now arena.now (line_said place) out.old at out.new result }
 {
     match leaf_at(h, dir, slots, arena, place) {
-        Shown::Leaf(v) => write_view(arena, v, out, at),
-        Shown::End => at,
-        Shown::Unshown(x) => refuse(x, out, at),
+        Ok(Some(v)) => write_view(arena, v, out, at),
+        Ok(None) => at,
+        Err(x) => refuse(x, out, at),
     }
 }
 
@@ -178,10 +174,8 @@ pub fn reply_leaves(
     ensures { ReadReply h dir.now slots.now arena.now leaves_text out.old at out.new result }
 {
     let mut e = at;
-    let mut place = 0;
-    while place < h.leaves {
+    for place in 0..h.leaves {
         e = reply_leaf(h, dir, slots, arena, place, out, e);
-        place += 1;
     }
     e
 }

@@ -10,8 +10,8 @@ use Rattle.arena.specs.Slides.{lent}
 use Rattle.layout.specs.Order.{leaf_words}
 use Rattle.room.specs.Leaf.{CanLeafDown, CanLeafUp, LeafDown, LeafUp, Up}
 use Rattle.room.specs.LeafLaws.{between_top, down_between, down_start, down_step, laid_moved, up_between, up_size, up_start, up_step}
-use Rattle.room.specs.PartLaws.{part_sized, part_word_lem}
-use Rattle.room.specs.Parts.{CanSlidePart, Laid, PartSize, CanSizePart, SlidPart, Tight, parts_from, size_of}
+use Rattle.room.specs.PartLaws.{part_word_lem}
+use Rattle.room.specs.Parts.{CanSlidePart, Laid, PartSize, SlidPart, Tight, parts_from, size_of}
 use Rattle.words.specs.Words.{word_count}
 
 size_here : {fanout : ℕ} {slots : List ℕ} {d k size : ℕ} (arena : List ℕ) → k ≤ word_count d → PartSize fanout slots d k size → size ≡ size_of (get_or (leaf_words (lent fanout slots arena) d) k 0)
@@ -29,9 +29,6 @@ module _ {fanout : ℕ} {slots arena : List ℕ} {d n start : ℕ} {now_slots no
 
   laid_down : Laid (lent fanout now_slots now_arena) g.fs d g.bs
   laid_down = laid_moved g.laid (i.down g.laid g.packed).moved
-
-  pub down_sized : CanSizePart fanout now_slots d k
-  down_sized = part_sized laid_down stored_down
 
   pub down_fits : {size : ℕ} → PartSize fanout now_slots d k size → end + size ≤ length now_arena
   down_fits p = rw (size_here now_arena stored_down p) (between_top k end laid_down (down_between laid_down stored_down (i.down g.laid g.packed).tight))
@@ -72,9 +69,6 @@ module _ {fanout : ℕ} {slots arena : List ℕ} {d n top : ℕ} {now_slots now_
 
   tight_up : Tight start (parts_from (lent fanout now_slots now_arena) d g.bs (suc m)) (length now_arena)
   tight_up = rw is at (i.up g.laid g.packed).tight
-
-  pub up_sized : CanSizePart fanout now_slots d m
-  up_sized = part_sized laid_up stored_up
 
   pub up_fits : {size : ℕ} → PartSize fanout now_slots d m size → size ≤ start
   up_fits p = rw (size_here now_arena stored_up p) (up_size laid_up stored_up tight_up)

@@ -23,30 +23,34 @@ pub pack_down_start : {fanout : ℕ} {dir slots arena : List ℕ} → PackDown f
 pack_down_start = record { down = λ leaves u k w. all_down_start w }
 
 module _ {fanout : ℕ} {dir slots arena : List ℕ} {j : ℕ} {now_slots now_arena : List ℕ} {i end : ℕ} (g : CanPackDown fanout dir slots arena j)
-    (a : PackDown fanout dir slots arena now_slots now_arena i end) (less : i < j) where
-  pub down_read : i < length dir
-  down_read = omega (arith, g.used, g.inside)
+    (a : PackDown fanout dir slots arena now_slots now_arena i end) (turn : i < length (take j dir)) where
+  less : i < j
+  less = omega (arith, length-take-le j dir (omega (arith, g.used, g.inside)))
 
   down_here : AllDown (lent fanout slots arena) (lent fanout now_slots now_arena) (take g.leaves dir) i end
-  down_here = a.down g.leaves (omega (arith, g.used)) g.inside g.whole
+  down_here = a.down g.leaves (omega (arith, less, g.used)) g.inside g.whole
 
-  pub pack_down_asked : {n : ℕ} → n ≡ word_count (get_or dir i 0) → length now_arena ≡ length arena → CanLeafDown fanout now_slots now_arena (get_or dir i 0) (n + 1) end
+  pub pack_down_asked : {n : ℕ} → n ≡ word_count (get_or (take j dir) i 0) → length now_arena ≡ length arena
+      → CanLeafDown fanout now_slots now_arena (get_or (take j dir) i 0) (n + 1) end
   pack_down_asked {n} e long =
       let ds = take g.leaves dir in
-      let laid = laid_at (whole_repacked g.whole down_here.repacked) i (used_place dir g.leaves i (omega (arith, g.used)) g.inside) in
-      record {
+      let e₁ : n ≡ word_count (get_or dir i 0) = rw (get_or-take j dir i 0 less) at e in
+      let laid = laid_at (whole_repacked g.whole down_here.repacked) i (used_place dir g.leaves i (omega (arith, less, g.used)) g.inside) in
+      rw (get_or-take j dir i 0 less) record {
         fs = take i ds;
         bs = drop (suc i) ds;
-        laid = rw (get_or-take g.leaves dir i 0 (omega (arith, g.used))) at laid;
+        laid = rw (get_or-take g.leaves dir i 0 (omega (arith, less, g.used))) at laid;
         stored = omega arith;
         packed = down_here.tight;
         arena_fits = omega (arith, g.arena_fits);
       }
 
-  pub pack_down_turn : {n : ℕ} {next_slots next_arena : List ℕ} {next : ℕ} → n ≡ word_count (get_or dir i 0)
-      → LeafDown fanout now_slots now_arena (get_or dir i 0) end next_slots next_arena (n + 1) next → length next_slots ≡ length now_slots
+  pub pack_down_turn : {n : ℕ} {next_slots next_arena : List ℕ} {next : ℕ} → n ≡ word_count (get_or (take j dir) i 0)
+      → LeafDown fanout now_slots now_arena (get_or (take j dir) i 0) end next_slots next_arena (n + 1) next → length next_slots ≡ length now_slots
       → PackDown fanout dir slots arena next_slots next_arena (i + 1) next
-  pack_down_turn {n} {next_slots} {next_arena} {next} e l long =
+  pack_down_turn {n} {next_slots} {next_arena} {next} e₀ l₀ long =
+      let e = rw (get_or-take j dir i 0 less) at e₀ in
+      let l = rw (get_or-take j dir i 0 less) at l₀ in
       let one : n + 1 ≡ suc (word_count (get_or dir i 0)) = omega arith in
       record {
         down = λ leaves u k w.
@@ -68,9 +72,6 @@ pack_up_start {leaves = leaves} {dir = dir} g = all_up_start leaves g.whole (ome
 
 module _ {fanout leaves : ℕ} {dir slots arena : List ℕ} {j : ℕ} {now_slots now_arena : List ℕ} {i start : ℕ} (g : CanPackUp fanout leaves dir slots arena j)
     (a : PackUp fanout leaves dir slots arena now_slots now_arena i start) (m : ℕ) (is : i ≡ suc m) (bound : i ≤ leaves) where
-  pub up_read : m < length dir
-  up_read = omega (arith, g.inside)
-
   abbrev whole_up : Whole (lent fanout now_slots now_arena) (take leaves dir)
   whole_up = whole_repacked g.whole a.repacked
 

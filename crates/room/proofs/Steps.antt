@@ -21,9 +21,6 @@ low_place h e = rw e (omega (arith, h.count_fits), omega (arith, h.count_fits, h
 pub first_place : {fanout d k leaf : ℕ} → CanPlacePart fanout d k → leaf ≡ word_leaf d → first_slot fanout leaf < 2 ^ 64
 first_place h e = rw e (omega (arith, h.inside))
 
-pub pair_place : {fanout d k leaf first : ℕ} → CanPlacePart fanout d k → leaf ≡ word_leaf d → first ≡ first_slot fanout leaf → first + (k - 1) < 2 ^ 64
-pair_place h e f = rw (f, e) (omega (arith, h.count_fits, h.inside, h.stored))
-
 pub low_is : {fanout d k leaf r : ℕ} → CanPlacePart fanout d k → k ≡ 0 → leaf ≡ word_leaf d → r ≡ low_key_slot fanout leaf → r ≡ part_slot fanout d k
 low_is {fanout} {d} h z e f = rw z (f ∙ ap (low_key_slot fanout) e)
 

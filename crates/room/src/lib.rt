@@ -1,5 +1,6 @@
 // Room made in the arena at a place: where it isn't there, the parts before it are moved down tight, the others up tight. The leaf list stays.
 // A leaf's parts are counted from its low key on: the low key is the 0-th, the i-th pair the (i + 1)-th.
+// (On parts, and no type with the index as its fact: these functions run in the middle of a change, where the buffers hold none.)
 #![tactic(auto)]
 
 ghost use Rattle.std.specs.Prelude.{◌≡◌};
@@ -10,18 +11,19 @@ ghost use Rattle.room.specs.Rooms.{CanMakeRoom, MadeRoom, PackedAround, RoomPlac
 ghost use Rattle.words.specs.Words.{Unpacked};
 
 use arena::{slide_low, slide_pair};
-use words::{Offset, Slot, SlotNo, first_slot, leaf_number, low_key_slot, pair_count, unpack_slot};
+use words::{Offset, Slot, SlotNo, first_slot, leaf_number, low_key_slot, pair_count};
 
 // Where the word of the k-th part of the leaf of the directory word d stands.
 fn part_slot(fanout: usize, d: u32, k: usize) -> SlotNo
     requires { CanPlacePart fanout d k }
     ensures { result.0 ≡ part_slot fanout d k }
 {
+    let leaf = leaf_number(d);
     if k == 0 {
-        return low_key_slot(fanout, leaf_number(d));
+        low_key_slot(fanout, leaf)
+    } else {
+        SlotNo(first_slot(fanout, leaf).0 + (k - 1))
     }
-    let first = first_slot(fanout, leaf_number(d));
-    SlotNo(first.0 + (k - 1))
 }
 
 // What the word of that part holds.
@@ -29,9 +31,7 @@ fn part_at(slots: &[u64], fanout: usize, d: u32, k: usize) -> Slot
     requires { CanSizePart fanout slots.now d k }
     ensures { Unpacked (part_word fanout slots.now d k) result }
 {
-    let place = part_slot(fanout, d, k);
-    let at = place.0;
-    unpack_slot(slots[at])
+    Slot::from(slots[part_slot(fanout, d, k).0])
 }
 
 // How many bytes that part has.
@@ -77,12 +77,10 @@ fn leaf_down(
     ensures { LeafDown fanout slots.old arena.old d start.0 slots.new arena.new n result.0 }
 {
     let mut end = start.0;
-    let mut k: usize = 0;
-    while k < n {
+    for k in 0..n {
         let size = part_size(slots, fanout, d, k);
         slide_part(slots, arena, fanout, d, k, Offset(end));
         end += size;
-        k += 1;
     }
     Offset(end)
 }
@@ -100,12 +98,10 @@ fn leaf_up(
     ensures { LeafUp fanout slots.old arena.old d top.0 slots.new arena.new n result.0 }
 {
     let mut start = top.0;
-    let mut k = pair_count(d) + 1;
-    while n < k {
-        let size = part_size(slots, fanout, d, k - 1);
+    for k in (n..pair_count(d) + 1).rev() {
+        let size = part_size(slots, fanout, d, k);
         start -= size;
-        slide_part(slots, arena, fanout, d, k - 1, Offset(start));
-        k -= 1;
+        slide_part(slots, arena, fanout, d, k, Offset(start));
     }
     Offset(start)
 }
@@ -115,15 +111,11 @@ fn pack_down(dir: &[u32], slots: &mut [u64], arena: &mut [u8], fanout: usize, j:
     requires { CanPackDown fanout dir.now slots.old arena.old j }
     ensures { PackDown fanout dir.now slots.old arena.old slots.new arena.new j result.0 }
 {
-    let mut end: usize = 0;
-    let mut i: usize = 0;
-    while i < j {
-        let d = dir[i];
-        let next = leaf_down(slots, arena, fanout, d, pair_count(d) + 1, Offset(end));
-        end = next.0;
-        i += 1;
+    let mut end = Offset(0);
+    for &d in &dir[..j] {
+        end = leaf_down(slots, arena, fanout, d, pair_count(d) + 1, end);
     }
-    Offset(end)
+    end
 }
 
 // The parts of the leaves from the j-th on moved up to the arena's end; and where they start.
@@ -138,14 +130,11 @@ fn pack_up(
     requires { CanPackUp fanout leaves dir.now slots.old arena.old j }
     ensures { PackUp fanout leaves dir.now slots.old arena.old slots.new arena.new j result.0 }
 {
-    let mut start = arena.len();
-    let mut i = leaves;
-    while j < i {
-        let next = leaf_up(slots, arena, fanout, dir[i - 1], 0, Offset(start));
-        start = next.0;
-        i -= 1;
+    let mut start = Offset(arena.len());
+    for i in (j..leaves).rev() {
+        start = leaf_up(slots, arena, fanout, dir[i], 0, start);
     }
-    Offset(start)
+    start
 }
 
 // Where the part behind the i-th one of the leaf at the directory's place j starts: that leaf's next, or the next leaf's first. Where there is
@@ -164,14 +153,12 @@ fn next_start(
 {
     let d = dir[j];
     if i < pair_count(d) {
-        let next = part_at(slots, fanout, d, i + 1);
-        return next.offset.0;
+        part_at(slots, fanout, d, i + 1).offset.0
+    } else if j + 1 < leaves {
+        part_at(slots, fanout, dir[j + 1], 0).offset.0
+    } else {
+        arena.len()
     }
-    if j + 1 < leaves {
-        let next = part_at(slots, fanout, dir[j + 1], 0);
-        return next.offset.0;
-    }
-    arena.len()
 }
 
 // All parts packed around that place, those up to the i-th one down and the others up; and where the first end.

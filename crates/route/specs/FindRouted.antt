@@ -1,14 +1,13 @@
 -- A key sought in the leaf that owns it: what the search asks, and that its answer is the key's place among the leaf's pairs.
 -- Assumes nothing.
 use Rattle.std.specs.Prelude.{◌-◌, ◌<◌, ℕ, List, ◌≡◌, drop, get_or, length, take}
-use Rattle.std.proofs.Common.{◌∙◌, ap, arith, length-drop, take_all}
+use Rattle.std.proofs.Common.{◌∙◌, ap, arith, length-drop, take_all, Result}
 use Rattle.layout.specs.Buffers.{slot_words}
 use Rattle.layout.specs.Lays.{buffers}
 use Rattle.layout.specs.Presumed.{Presumed}
 use Rattle.layout.specs.declared.Header.{Header}
 use Rattle.leaf.specs.FindLaws.{leaf_slots_are, suffix-place, suffix_rising}
 use Rattle.leaf.specs.Finds.{Suffixes, find_told, leaf_slots, suffixes_of}
-use Rattle.leaf.specs.declared.Find.{Find}
 use Rattle.leaf.specs.declared.Leaf.{Leaf}
 use Rattle.model.specs.Leaves.{Node, owner}
 use Rattle.model.proofs.OwnerLaws.{tiled_at}
@@ -31,7 +30,7 @@ module _ {h : Header} {dir slots arena : List ℕ} {ns : List Node} {j : ℕ} {l
   }
 
   -- (the key's part as `&key[p..]` gives it)
-  pub find_routed : (k : Bytes) {f : Find} → j ≡ owner k ns
+  pub find_routed : (k : Bytes) {f : Result ℕ ℕ} → j ≡ owner k ns
       → f ≡ find_told (place (take (length k - leaf.prefix_length) (drop leaf.prefix_length k)) (suffixes_of arena (leaf_slots slots leaf)))
       → f ≡ find_told (place k (leaf_at ns j).pairs)
   find_routed k e f =

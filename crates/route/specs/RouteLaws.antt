@@ -1,9 +1,9 @@
 -- What a caller knows of the leaf list that header and buffers hold: a low key and an upper key that were read, a leaf that was read, and the
 -- leaf that owns a key, which begins with that leaf's prefix.
 -- Assumes nothing.
-use Rattle.std.specs.Prelude.{◌+◌, ◌<◌, ◌≤◌, suc, zero, ℕ, List, [], ◌∷◌, ◌≡◌, refl, drop, get_or, length, take}
+use Rattle.std.specs.Prelude.{◌+◌, ◌<◌, ◌≤◌, suc, zero, ℕ, List, [], ◌∷◌, ◌≡◌, refl, drop, get_or, length, take, Some, None}
 use Rattle.std.proofs.Math.Option.{none, some}
-use Rattle.std.proofs.Common.{◌∙◌, ap, sym}
+use Rattle.std.proofs.Common.{◌∙◌, ap, sym, Option}
 use native.Mathlib.Omega.{arith}
 use Rattle.layout.specs.Buffers.{low_at, low_word, slot_words, suffix_at}
 use Rattle.layout.specs.Lays.{LaysLeaf, buffers}
@@ -11,12 +11,12 @@ use Rattle.layout.specs.LaysParts.{WordInside}
 use Rattle.layout.specs.LaysWords.{WordGood}
 use Rattle.layout.proofs.LaysWords.{holds_at, holds_inside, holds_long, word_good}
 use Rattle.layout.specs.Order.{leaf_words}
-use Rattle.layout.specs.Presumed.{Presumed}
+use Rattle.layout.specs.Presumed.{Inner, Presumed}
+use Rattle.layout.specs.Viewed.{Views, leaves_of, view_held}
 use Rattle.layout.specs.declared.Header.{Header}
+use Rattle.layout.specs.declared.lent.View.{View}
 use Rattle.leaf.specs.Keys.{KeyAt, UpperAt, key_at, upper_at}
 use Rattle.leaf.specs.declared.Leaf.{Leaf}
-use Rattle.leaf.specs.declared.Upper.{Upper}
-use Rattle.leaf.specs.declared.Upper.TheVariants.{At, Nothing}
 use Rattle.lists.specs.All.{All}
 use Rattle.lists.specs.Part.{part}
 use Rattle.model.specs.Leaves.{Node, low_of, node, owned, owner}
@@ -76,13 +76,13 @@ module _ {h : Header} {dir slots arena : List ℕ} {ns : List Node} (p : Presume
 
   -- an upper key read
 
-  pub upper_stands : (j : ℕ) (upper : Upper) → UpperRead h dir slots j upper → UpperAt arena 0 upper
-  upper_stands j (At u) r = low_key_at (suc j) r.0 r.1
-  upper_stands j Nothing r = tt
+  pub upper_stands : (j : ℕ) (upper : Option LowKey) → UpperRead h dir slots j upper → UpperAt arena 0 upper
+  upper_stands j (Some u) r = low_key_at (suc j) r.0 r.1
+  upper_stands j None r = tt
 
-  pub upper_is : (j : ℕ) (upper : Upper) → UpperRead h dir slots j upper → upper_at arena upper ≡ upper_of ns j
-  upper_is j (At u) r = ap some (low_key_is (suc j) r.0 r.1) ∙ sym (low_from (node 0 [] []) (suc j) ns (place_in r.0))
-  upper_is j Nothing r = sym (low_none (suc j) ns (omega (arith, p.holds.leaves_are)))
+  pub upper_is : (j : ℕ) (upper : Option LowKey) → UpperRead h dir slots j upper → upper_at arena upper ≡ upper_of ns j
+  upper_is j (Some u) r = ap some (low_key_is (suc j) r.0 r.1) ∙ sym (low_from (node 0 [] []) (suc j) ns (place_in r.0))
+  upper_is j None r = sym (low_none (suc j) ns (omega (arith, p.holds.leaves_are)))
 
   -- the leaf that owns a key (L1)
 
@@ -132,3 +132,12 @@ module _ {h : Header} {dir : List ℕ} {ns : List Node} {j : ℕ} {leaf : Leaf} 
 
   pub key_begins : {k : Bytes} → Routed h ns k j → take leaf.prefix_length k ≡ take leaf.prefix_length (leaf_at ns j).low
   key_begins r = rw l.prefix_is r.begins
+
+-- what was read on a view, told of the header and the buffers that it views
+
+module _ {h : Header} {dir slots arena : List ℕ} (v : View) (u : Views v h dir slots arena) where
+  pub leaf_told : {j : ℕ} {leaf : Leaf} → LeafIs v.header v.dir.now (leaves_of v) j leaf → Inner h dir slots arena (λ ns. LeafIs h dir ns j leaf)
+  leaf_told {j} {leaf} e = view_held (λ h dir slots arena ns. LeafIs h dir ns j leaf) v u e
+
+  pub owner_told : (k : Bytes) {j : ℕ} → j ≡ owner k (leaves_of v) → Inner h dir slots arena (λ ns. j ≡ owner k ns)
+  owner_told k {j} e = view_held (λ h dir slots arena ns. j ≡ owner k ns) v u e

@@ -1,25 +1,20 @@
 -- Reading one leaf of the directory: what the functions ask, and what their answers are.
-use Rattle.std.specs.Prelude.{ℕ, suc, ◌^◌, ◌≤◌, ◌<◌, List, [], ◌≡◌, drop, get_or, length, take}
-use Rattle.std.proofs.Math.Option.{Option}
+use Rattle.std.proofs.Common.{Option}
+use Rattle.std.specs.Prelude.{ℕ, suc, ◌^◌, ◌≤◌, ◌<◌, List, [], ◌≡◌, drop, get_or, length, take, Some, None}
+use Rattle.std.proofs.Math.Option as math
 use Rattle.order.specs.Bytes.{Bytes}
 use Rattle.words.specs.Words.{LowKeyUnpacked, low_key_slot, word_count, word_leaf}
 use Rattle.model.specs.Leaves.{Node, Spans, low_of, node, prefix_length}
-use Rattle.layout.specs.Buffers.{Buffers, low_word}
-use Rattle.layout.specs.LaysParts.{WordInside}
 use Rattle.layout.specs.declared.Header.{Header}
 use Rattle.leaf.specs.declared.Leaf.{Leaf}
-use Rattle.leaf.specs.declared.Upper.{Upper}
-use Rattle.leaf.specs.declared.Upper.TheVariants.{At, Nothing}
-
-abbrev pub lent : (fanout : ℕ) (slots arena : List ℕ) → Buffers
-lent fanout slots arena = record { fanout = fanout; slots = slots; arena = arena }
+use Rattle.words.specs.declared.LowKey.{LowKey}
 
 -- the j-th leaf of a leaf list, its upper key and its prefix length (L2)
 
 abbrev pub leaf_at : List Node → ℕ → Node
 leaf_at ns j = get_or ns j (node 0 [] [])
 
-abbrev pub upper_of : List Node → ℕ → Option Bytes
+abbrev pub upper_of : List Node → ℕ → math.Option Bytes
 upper_of ns j = low_of (drop (suc j) ns)
 
 abbrev pub prefix_at : List Node → ℕ → ℕ
@@ -35,16 +30,10 @@ pub record Directed (h : Header) (dir slots : List ℕ) : Type 0 where
   pub listed : h.leaves ≤ length dir
   pub lows_in : (j : ℕ) → j < h.leaves → low_place h dir j < length slots
 
--- the low key of the directory word d can be read
-pub record LowIn (fanout : ℕ) (slots arena : List ℕ) (d : ℕ) : Type 0 where
-  pub some_slot : 0 < fanout
-  pub low_in : low_key_slot fanout (word_leaf d) < length slots
-  pub inside : WordInside arena (low_word (lent fanout slots arena) d)
-
 -- the j-th leaf's upper key as its place and length, or none
-abbrev pub UpperRead : Header → (dir slots : List ℕ) → ℕ → Upper → Type 0
-UpperRead h dir slots j (At k) = (suc j < h.leaves) × LowKeyUnpacked (get_or slots (low_place h dir (suc j)) 0) k
-UpperRead h dir slots j Nothing = h.leaves ≤ suc j
+abbrev pub UpperRead : Header → (dir slots : List ℕ) → ℕ → Option LowKey → Type 0
+UpperRead h dir slots j (Some k) = (suc j < h.leaves) × LowKeyUnpacked (get_or slots (low_place h dir (suc j)) 0) k
+UpperRead h dir slots j None = h.leaves ≤ suc j
 
 -- the j-th leaf by value
 pub record LeafIs (h : Header) (dir : List ℕ) (ns : List Node) (j : ℕ) (leaf : Leaf) : Type 0 where

@@ -1,6 +1,6 @@
 -- The fronts of the program's buffers, lent and come back: from what stands in the buffers to an index that has all of its own, and back.
 -- Assumes nothing.
-use Rattle.std.specs.Prelude.{ℕ, ◌*◌, ◌≤◌, Bool, cond, false, true, List, ◌++◌, ◌≡◌, refl, ltb, drop, length, take}
+use Rattle.std.specs.Prelude.{ℕ, ◌*◌, ◌≤◌, None, Some, Bool, cond, false, true, List, ◌++◌, ◌≡◌, refl, ltb, drop, length, take}
 use Rattle.std.proofs.Common.{mul-le-mul, arith, ltb-false, sym, ap, subst, ◌∙◌, take-append-drop, length-take-le, take_at}
 use Rattle.std.proofs.Math.Option.{Option}
 use Rattle.layout.specs.Lays.{Holds}
@@ -8,10 +8,11 @@ use Rattle.layout.specs.declared.Header.{Header}
 use Rattle.lines.specs.Grammar.{Command}
 use Rattle.lines.specs.declared.Line.{Line}
 use Rattle.model.specs.Leaves.{Node}
-use Rattle.session.specs.Serving.{Ample, LineAsked, OpenAsked, RepliedBy, ServedBy, Standing, Stands, StandsIn, has_index}
+use Rattle.session.specs.Serving.{Ample, LineAsked, OpenAsked, RepliedBy, ServedBy, Standing, Stands, StandsIn, has_index, holding}
 use Rattle.session.specs.Session.{Carries, Fronts, no_index}
 use Rattle.session.specs.Turns.{Idle, State, above, arena_ceiling, fanout_ceiling, line_turn, pool_ceiling}
 use Rattle.session.specs.Turns.State.{closed, opened}
+use Rattle.session.specs.declared.Open.{Open}
 use Rattle.session.specs.declared.Served.{Served}
 use Rattle.session.specs.declared.Session.{Session}
 
@@ -53,10 +54,10 @@ not_above {f} {p} {a} e = go (ltb fanout_ceiling f) (ltb pool_ceiling p) refl re
 
 -- an index in the fronts, as one that has all of its buffers
 
-fronts_within : {f p a : ℕ} {ns : List Node} {s : Session} {dir slots arena : List ℕ} → Fronts f p a ns s dir slots arena → Within f p a
+fronts_within : {f p a : ℕ} {ns : List Node} {s : Open} {dir slots arena : List ℕ} → Fronts f p a ns s dir slots arena → Within f p a
 fronts_within x = record { fanout_most = x.fanout_most; pool_most = x.pool_most; arena_most = x.arena_most }
 
-module _ {f p a : ℕ} {ns : List Node} {s : Session} {dir slots arena : List ℕ} (m : Ample dir slots arena) (x : Fronts f p a ns s dir slots arena) where
+module _ {f p a : ℕ} {ns : List Node} {s : Open} {dir slots arena : List ℕ} (m : Ample dir slots arena) (x : Fronts f p a ns s dir slots arena) where
   fronts_stand : Stands f p a ns s.header (take p dir) (take (f * p) slots) (take a arena)
   fronts_stand =
       let q = ample_parts m (fronts_within x) in
@@ -109,7 +110,6 @@ back_carries (opened f' p' a' ns) h dir slots arena now_dir now_slots now_arena 
     let byte : a' ≡ a = sym x.arena_is ∙ k in
     let word : f' * p' ≡ w = ap (λ (n : ℕ). n * p') (sym x.fanout_is) ∙ ap (λ (n : ℕ). h.fanout * n) (sym x.pool_is) ∙ sym x.holds.sizes.slots_are ∙ j in
     record {
-      is_open = refl;
       fanout_is = x.fanout_is;
       pool_is = sym pool;
       arena_is = sym byte;
@@ -125,22 +125,22 @@ back_carries (opened f' p' a' ns) h dir slots arena now_dir now_slots now_arena 
 
 -- a line other than `new` on an open session
 
-pub closed_open : {A : Type 0} (s : Session) → s.open ≡ false → s.open ≡ true → A
+pub closed_open : {A : Type 0} (s : Session) {o : Open} → s.index ≡ None → s.index ≡ Some o → A
 closed_open s e f = absurd (let z : ◌≡◌ {A = ℕ} 0 1 = cc (e, f) in omega (arith, z))
 
-none_open : {A : Type 0} {s : Session} → s ≡ no_index → s.open ≡ true → A
-none_open {s = s} e f = closed_open s (ap (λ (i : Session). i.«open») e) f
+-- a session that holds an index is its own parts
+own_session : (s : Session) {o : Open} → s.index ≡ Some o → has_index o.header o.pool o.arena ≡ s
+own_session s e = λ i. record { index = sym e i }
 
--- an open session is its own parts
-own_session : (s : Session) → s.open ≡ true → has_index s.header s.pool s.arena ≡ s
-own_session s e = λ i. record { «open» = sym e i; header = s.header; pool = s.pool; arena = s.arena }
+none_open : {A : Type 0} {s : Open} → holding s ≡ no_index → A
+none_open e = let f = ap (λ (i : Session). i.index) e in absurd (let z : ◌≡◌ {A = ℕ} 0 1 = cc (f) in omega (arith, z))
 
-module _ {s : Session} {dir slots arena : List ℕ} {line : Line} {key value old out : List ℕ} {at : ℕ} (x : OpenAsked s dir slots arena line key value old out at) where
+module _ {s : Open} {dir slots arena : List ℕ} {line : Line} {key value old out : List ℕ} {at : ℕ} (x : OpenAsked s dir slots arena line key value old out at) where
   pub open_within : Within s.header.fanout s.pool s.arena
   open_within = go x.state x.carries
     where
-      go : (z : State) → Carries z s dir slots arena → Within s.header.fanout s.pool s.arena
-      go closed e = none_open e x.is_open
+      go : (z : State) → Carries z (holding s) dir slots arena → Within s.header.fanout s.pool s.arena
+      go closed e = none_open e
       go (opened f p a ns) w = own_within x.ample w
 
   pub open_parts : Parts s.header.fanout s.pool s.arena dir slots arena
@@ -153,17 +153,17 @@ module _ {s : Session} {dir slots arena : List ℕ} {line : Line} {key value old
     within = x.within;
   }
     where
-      go : (z : State) → Carries z s dir slots arena → Standing s.header (take s.pool dir) (take (s.header.fanout * s.pool) slots) (take s.arena arena)
-      go closed e = none_open e x.is_open
+      go : (z : State) → Carries z (holding s) dir slots arena → Standing s.header (take s.pool dir) (take (s.header.fanout * s.pool) slots) (take s.arena arena)
+      go closed e = none_open e
       go (opened f p a ns) w = standing_of (own_stand x.ample w)
 
   pub open_served : (c : Option Command) {now_dir now_slots now_arena now_out : List ℕ} {r : Served} {q : Session}
       → length now_dir ≡ length (take s.pool dir) → length now_slots ≡ length (take (s.header.fanout * s.pool) slots) → length now_arena ≡ length (take s.arena arena)
       → ServedBy c s.header (take s.pool dir) (take (s.header.fanout * s.pool) slots) (take s.arena arena) out at r now_dir now_slots now_arena now_out
       → q ≡ has_index r.header s.pool s.arena
-      → RepliedBy (λ z. line_turn z c) (λ z. Idle z c) s dir slots arena out at (record { session = q; at = r.at })
+      → RepliedBy (λ z. line_turn z c) (λ z. Idle z c) (holding s) dir slots arena out at (record { session = q; at = r.at })
       (now_dir ++ drop s.pool dir) (now_slots ++ drop (s.header.fanout * s.pool) slots) (now_arena ++ drop s.arena arena) now_out
-  open_served c {now_dir} {now_slots} {now_arena} {now_out} {r} {q} i j k y e closed w = none_open w x.is_open
+  open_served c {now_dir} {now_slots} {now_arena} {now_out} {r} {q} i j k y e closed w = none_open w
   open_served c {now_dir} {now_slots} {now_arena} {now_out} {r} {q} i j k y e (opened f p a ns) w =
       let v = y f p a ns (own_stand x.ample w) in
       let pool : length now_dir ≡ s.pool = i ∙ length-take-le s.pool dir open_parts.pool_in in
@@ -178,7 +178,7 @@ module _ {s : Session} {dir slots arena : List ℕ} {line : Line} {key value old
         kept = λ t.
             let k = v.kept t in
             record {
-              session_is = e ∙ ap (λ (h : Header). has_index h s.pool s.arena) k.header_is ∙ own_session s x.is_open;
+              session_is = e ∙ ap (λ (h : Header). has_index h s.pool s.arena) k.header_is;
               dir_is = ap (λ (l : List ℕ). l ++ drop s.pool dir) k.dir_is ∙ take-append-drop s.pool dir;
               slots_are = ap (λ (l : List ℕ). l ++ drop (s.header.fanout * s.pool) slots) k.slots_are ∙ take-append-drop (s.header.fanout * s.pool) slots;
               arena_is = ap (λ (l : List ℕ). l ++ drop s.arena arena) k.arena_is ∙ take-append-drop s.arena arena;

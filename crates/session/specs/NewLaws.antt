@@ -1,6 +1,6 @@
 -- `new`: above a ceiling it is refused, and what stood stands; else a fresh index has the fronts of the buffers, or it is refused by its sizes.
 -- Assumes nothing.
-use Rattle.std.specs.Prelude.{ℕ, ◌+◌, ◌*◌, ◌≤◌, Bool, cond, false, not, true, List, ◌++◌, ◌≡◌, refl, drop, length, take}
+use Rattle.std.specs.Prelude.{ℕ, ◌+◌, ◌*◌, ◌≤◌, Bool, None, Some, cond, false, not, true, List, ◌++◌, ◌≡◌, refl, drop, length, take}
 use Rattle.std.proofs.Common.{arith, inl, inr, sym, ap, subst, ◌∙◌, take-append-drop, length-take-le}
 use Rattle.answers.specs.AnswerLaws.{wrote_is}
 use Rattle.answers.specs.Answers.{Wrote}
@@ -12,10 +12,9 @@ use Rattle.model.specs.Good.{Good, limits}
 use Rattle.model.specs.Leaves.{Node}
 use Rattle.model.specs.Rules.{fresh}
 use Rattle.model.specs.declared.Refusal.TheVariants.{Shape}
-use Rattle.replies.specs.Replies.{NewReply, new_said}
+use Rattle.replies.specs.Replies.{NewReply, kept, made, new_said}
 use Rattle.replies.specs.Texts.{new_text, refusal_text}
 use Rattle.replies.specs.declared.Opened.{Opened}
-use Rattle.replies.specs.declared.Opened.TheVariants.{Kept, Made}
 use Rattle.session.specs.BoundLaws.{opens_most, refusal_most}
 use Rattle.session.specs.FrontLaws.{Parts, Within, ample_parts, back_carries, not_above}
 use Rattle.session.specs.Serving.{NewAsked, Replies, RepliedBy, Stands, has_index}
@@ -58,18 +57,24 @@ not_idle : (f p a : ℕ) (ns : List Node) → above f p a ≡ false → create_a
 not_idle f p a ns u e (inl t) = let z : ◌≡◌ {A = ℕ} 0 1 = cc (t, u) in omega (arith, z)
 not_idle f p a ns u e (inr t) = subst Refuses e t
 
-kept_place : {m n : ℕ} → Kept m ≡ Kept n → m ≡ n
-kept_place e = cc (e)
+pub made_is : (r : Opened) {h : Header} → r.header ≡ Some h → r ≡ made h r.at
+made_is r e = λ i. record { header = e i; at = r.at }
 
-kept_made : {A : Type 0} {m n : ℕ} {h : Header} → Kept m ≡ Made h n → A
-kept_made e = absurd (let z : ◌≡◌ {A = ℕ} 0 1 = cc (e) in omega (arith, z))
+pub kept_is : (r : Opened) → r.header ≡ None → r ≡ kept r.at
+kept_is r e = λ i. record { header = e i; at = r.at }
+
+kept_place : {m n : ℕ} → kept m ≡ kept n → m ≡ n
+kept_place e = ap (λ (r : Opened). r.at) e
+
+kept_made : {A : Type 0} {m n : ℕ} {h : Header} → kept m ≡ made h n → A
+kept_made e = let f = ap (λ (r : Opened). r.header) e in absurd (let z : ◌≡◌ {A = ℕ} 0 1 = cc (f) in omega (arith, z))
 
 record SameMade (h g : Header) (m n : ℕ) : Type 0 where
   headers : h ≡ g
   places : m ≡ n
 
-made_parts : {h g : Header} {m n : ℕ} → Made h m ≡ Made g n → SameMade h g m n
-made_parts e = record { headers = cc (e); places = cc (e) }
+made_parts : {h g : Header} {m n : ℕ} → made h m ≡ made g n → SameMade h g m n
+made_parts e = let f = ap (λ (r : Opened). r.header) e in record { headers = cc (f); places = ap (λ (r : Opened). r.at) e }
 
 module _ {dir slots arena : List ℕ} (out : List ℕ) (at : ℕ) (s : Session) (f p a : ℕ) (m : Within f p a) (q : Parts f p a dir slots arena) (u : above f p a ≡ false) (now_dir now_slots now_out : List ℕ) (r : Opened)
     (i : length now_dir ≡ length (take p dir)) (j : length now_slots ≡ length (take (f * p) slots)) where
@@ -89,7 +94,7 @@ module _ {dir slots arena : List ℕ} (out : List ℕ) (at : ℕ) (s : Session) 
   abbrev Came : Answer (List Node) → Type 0
   Came o = NewReply o f (take p dir) (take (f * p) slots) (take a arena) out at now_dir now_slots now_out r
 
-  pub kept_replied : {e : ℕ} → Came (create_answer f (length (take p dir)) (length (take (f * p) slots)) (length (take a arena))) → r ≡ Kept e
+  pub kept_replied : {e : ℕ} → Came (create_answer f (length (take p dir)) (length (take (f * p) slots)) (length (take a arena))) → r ≡ kept e
       → RepliedBy (λ z. new_turn z f p a) (λ _. NewIdle f p a) s dir slots arena out at (record { session = s; at = e }) (now_dir ++ drop p dir) (now_slots ++ drop (f * p) slots) arena now_out
   kept_replied {e} y g = go (create_answer f (length (take p dir)) (length (take (f * p) slots)) (length (take a arena))) refl y
     where
@@ -106,7 +111,7 @@ module _ {dir slots arena : List ℕ} (out : List ℕ) (at : ℕ) (s : Session) 
             kept = λ _. record { session_is = refl; dir_is = sym dirs; slots_are = sym words; arena_is = refl };
           })
 
-  pub made_replied : {h : Header} {e : ℕ} {t : Session} → Came (create_answer f (length (take p dir)) (length (take (f * p) slots)) (length (take a arena))) → r ≡ Made h e → t ≡ has_index h p a
+  pub made_replied : {h : Header} {e : ℕ} {t : Session} → Came (create_answer f (length (take p dir)) (length (take (f * p) slots)) (length (take a arena))) → r ≡ made h e → t ≡ has_index h p a
       → RepliedBy (λ z. new_turn z f p a) (λ _. NewIdle f p a) s dir slots arena out at (record { session = t; at = e }) (now_dir ++ drop p dir) (now_slots ++ drop (f * p) slots) arena now_out
   made_replied {h} {e} {t} y g c = go (create_answer f (length (take p dir)) (length (take (f * p) slots)) (length (take a arena))) refl y
     where

@@ -1,16 +1,15 @@
 -- From what the calls answer and leave to the turn of a line: on an index that has all of the lent buffers.
 -- Assumes nothing.
-use Rattle.std.specs.Prelude.{ℕ, ◌+◌, ◌≤◌, ◌<◌, ltb, true, List, ◌≡◌, refl, length}
+use Rattle.std.specs.Prelude.{ℕ, ◌+◌, ◌≤◌, ◌<◌, ltb, Some, Ok, true, List, ◌≡◌, refl, length}
 use Rattle.std.proofs.Common.{arith, inl, inr, sym, ap, subst, ◌∙◌}
 use borrow.Author.Tests.{le-ltb, lt-ltb}
+use Rattle.std.proofs.Common as rust
 use Rattle.std.proofs.Math.Option.{Option, none, some}
 use Rattle.answers.specs.AnswerLaws.{wrote_is}
 use Rattle.answers.specs.Answers.{Wrote, answered}
 use Rattle.answers.specs.Answers as said
 use Rattle.changes.specs.Outcomes.{ChangedBy, Lent, old_bytes, old_told}
 use Rattle.changes.specs.declared.Changed.{Changed}
-use Rattle.changes.specs.declared.Old.{Old}
-use Rattle.changes.specs.declared.Old.TheVariants.{Value}
 use Rattle.layout.specs.Lays.{Holds, W}
 use Rattle.layout.specs.LaysUnique.{holds_unique}
 use Rattle.layout.specs.declared.Header.{Header}
@@ -28,6 +27,7 @@ use Rattle.model.specs.Map.{lookup}
 use Rattle.model.proofs.PairLaws.{lookup-owned, remove_absent}
 use Rattle.model.specs.PassedLaws.{passed_if, same_accepted}
 use Rattle.model.specs.Rules.{remove_rule}
+use Rattle.model.specs.declared.Refusal.{Refusal}
 use Rattle.model.specs.declared.Refusal.TheVariants.{LongKey, ShortOutput}
 use Rattle.order.specs.Bytes.{Bytes}
 use Rattle.session.specs.BoundLaws.{OldFits, Small, bad_most, get_most, insert_most, insert_old_fits, leaves_most, next_most, remove_most, remove_old_fits}
@@ -65,11 +65,11 @@ read_asked {h} {dir} {arena = arena} text x most = record {
 
 -- what a changing call hands back, told
 
-old_front : (old : Bytes) (o : Option Bytes) (x : Old) → size_of o ≤ length old → x ≡ old_told o → old_said x (put old 0 (old_bytes o)) ≡ old_text o
+old_front : (old : Bytes) (o : Option Bytes) (x : rust.Result (rust.Option ℕ) Refusal) → size_of o ≤ length old → x ≡ old_told o → old_said x (put old 0 (old_bytes o)) ≡ old_text o
 old_front old none x h e = rw e
 old_front old (some v) x h e = rw e (ap (λ (w : Bytes). answered (said.old w)) (part-put old 0 v (omega arith)))
 
-old_inside : (old : Bytes) (o : Option Bytes) (x : Old) → size_of o ≤ length old → x ≡ old_told o → OldWithin x (put old 0 (old_bytes o))
+old_inside : (old : Bytes) (o : Option Bytes) (x : rust.Result (rust.Option ℕ) Refusal) → size_of o ≤ length old → x ≡ old_told o → OldWithin x (put old 0 (old_bytes o))
 old_inside old none x h e = rw e tt
 old_inside old (some v) x h e = rw e (omega (arith, length-put old 0 v (omega arith)))
 
@@ -213,10 +213,10 @@ module _ {h : Header} {dir slots arena : List ℕ} {line : Line} {key value old 
 module _ {h : Header} {dir slots arena out : List ℕ} {at : ℕ} where
   -- a line serves as the command that it is told by
   pub told_served : {now_dir now_slots now_arena now_out : List ℕ} {r : Served} (line other : Line) (key value : Bytes) → line ≡ other
-      → ServedBy (told_command other key value) h dir slots arena out at r now_dir now_slots now_arena now_out
-      → ServedBy (told_command line key value) h dir slots arena out at r now_dir now_slots now_arena now_out
+      → ServedBy (told_command (Some other) key value) h dir slots arena out at r now_dir now_slots now_arena now_out
+      → ServedBy (told_command (Some line) key value) h dir slots arena out at r now_dir now_slots now_arena now_out
   told_served {now_dir} {now_slots} {now_arena} {now_out} {r} line other key value e x =
-      subst (λ (l : Line). ServedBy (told_command l key value) h dir slots arena out at r now_dir now_slots now_arena now_out) (sym e) x
+      subst (λ (l : Line). ServedBy (told_command (Some l) key value) h dir slots arena out at r now_dir now_slots now_arena now_out) (sym e) x
 
   -- those that read
   module _ {now_out : List ℕ} {r : ℕ} where
@@ -256,18 +256,18 @@ module _ {h : Header} {dir slots arena out : List ℕ} {at : ℕ} where
 
 -- what is told of a change, by its cases
 
-module _ {x : Old} {old out : Bytes} {at : ℕ} (q : ChangeAsked x old out at) where
-  pub value_within : {n : ℕ} → x ≡ Value n → n ≤ length old
-  value_within {n} e = go (Value n) e
+module _ {x : rust.Result (rust.Option ℕ) Refusal} {old out : Bytes} {at : ℕ} (q : ChangeAsked x old out at) where
+  pub value_within : {n : ℕ} → x ≡ Ok (Some n) → n ≤ length old
+  value_within {n} e = go (Ok (Some n)) e
     where
-      go : (y : Old) → x ≡ y → OldWithin y old
-      go y e = subst (λ (y : Old). OldWithin y old) e q.within
+      go : (y : rust.Result (rust.Option ℕ) Refusal) → x ≡ y → OldWithin y old
+      go y e = subst (λ (y : rust.Result (rust.Option ℕ) Refusal). OldWithin y old) e q.within
 
-  pub old_room : (y : Old) → x ≡ y → at + length (old_said y old) ≤ length out
-  old_room y e = subst (λ (y : Old). at + length (old_said y old) ≤ length out) e q.room
+  pub old_room : (y : rust.Result (rust.Option ℕ) Refusal) → x ≡ y → at + length (old_said y old) ≤ length out
+  old_room y e = subst (λ (y : rust.Result (rust.Option ℕ) Refusal). at + length (old_said y old) ≤ length out) e q.room
 
-pub old_wrote : {out now_out : Bytes} {at r : ℕ} (x y : Old) (old : Bytes) → x ≡ y → Wrote out now_out at (old_said y old) r → Wrote out now_out at (old_said x old) r
-old_wrote {out} {now_out} {at} {r} x y old e w = subst (λ (y : Old). Wrote out now_out at (old_said y old) r) (sym e) w
+pub old_wrote : {out now_out : Bytes} {at r : ℕ} (x y : rust.Result (rust.Option ℕ) Refusal) (old : Bytes) → x ≡ y → Wrote out now_out at (old_said y old) r → Wrote out now_out at (old_said x old) r
+old_wrote {out} {now_out} {at} {r} x y old e w = subst (λ (y : rust.Result (rust.Option ℕ) Refusal). Wrote out now_out at (old_said y old) r) (sym e) w
 
 -- which sizes are above a ceiling, at the numbers themselves
 

@@ -1,29 +1,33 @@
 -- What the functions under `reply` ask and leave: on an index that has all of the lent buffers, what the turn of the line says.
-use Rattle.std.specs.Prelude.{ℕ, ◌+◌, ◌*◌, ◌≤◌, true, List, ◌≡◌, length, take}
+use Rattle.std.specs.Prelude.{ℕ, ◌+◌, ◌*◌, ◌≤◌, None, Some, Ok, Err, List, ◌≡◌, length, take}
+use Rattle.std.proofs.Common as rust
 use Rattle.std.proofs.Math.Option.{Option, none, some}
 use Rattle.answers.specs.Answers.{Wrote, answered}
 use Rattle.answers.specs.Answers as said
-use Rattle.changes.specs.declared.Old.{Old}
-use Rattle.changes.specs.declared.Old.TheVariants.{Nothing, Refused, Value}
 use Rattle.layout.specs.Lays.{Holds}
 use Rattle.layout.specs.declared.Header.{Header}
 use Rattle.lines.specs.Grammar.{Command}
 use Rattle.lines.specs.Grammar.Command.{dels, gets, makes, nexts, puts, shows}
 use Rattle.lines.specs.declared.Line.{Line}
-use Rattle.lines.specs.declared.Line.TheVariants.{Bad, Del, Get, Leaves, New, Next, Put}
+use Rattle.lines.specs.declared.Line.TheVariants.{Del, Get, Leaves, New, Next, Put}
 use Rattle.model.specs.Good.{Good, limits}
 use Rattle.model.specs.Leaves.{Node}
+use Rattle.model.specs.declared.Refusal.{Refusal}
 use Rattle.order.specs.Bytes.{Bytes}
 use Rattle.session.specs.Session.{Carries, Untouched, answer_limit}
 use Rattle.replies.specs.Texts.{refusal_text}
 use Rattle.session.specs.Turns.{Idle, State, Turn, arena_ceiling, fanout_ceiling, line_turn, output_room, pool_ceiling}
 use Rattle.session.specs.Turns.State.{closed, opened}
+use Rattle.session.specs.declared.Open.{Open}
 use Rattle.session.specs.declared.Replied.{Replied}
 use Rattle.session.specs.declared.Served.{Served}
 use Rattle.session.specs.declared.Session.{Session}
 
+abbrev pub holding : Open → Session
+holding s = record { index = Some s }
+
 abbrev pub has_index : Header → (pool arena : ℕ) → Session
-has_index h p a = record { «open» = true; header = h; pool = p; arena = a }
+has_index h p a = holding (record { header = h; pool = p; arena = a })
 
 -- the index has all of the lent buffers, within the ceilings
 pub record Stands (f p a : ℕ) (ns : List Node) (h : Header) (dir slots arena : List ℕ) : Type 0 where
@@ -70,30 +74,30 @@ ServedBy c h dir slots arena out at r now_dir now_slots now_arena now_out =
 
 -- what a changing call handed back, its bytes at the front of a buffer
 
-abbrev pub old_said : Old → Bytes → Bytes
-old_said (Value n) old = answered (said.old (take n old))
-old_said Nothing old = answered said.none
-old_said (Refused x) old = refusal_text x
+abbrev pub old_said : rust.Result (rust.Option ℕ) Refusal → Bytes → Bytes
+old_said (Ok (Some n)) old = answered (said.old (take n old))
+old_said (Ok None) old = answered said.none
+old_said (Err x) old = refusal_text x
 
-abbrev pub OldWithin : Old → Bytes → Type 0
-OldWithin (Value n) old = n ≤ length old
-OldWithin Nothing old = Unit {0}
-OldWithin (Refused x) old = Unit {0}
+abbrev pub OldWithin : rust.Result (rust.Option ℕ) Refusal → Bytes → Type 0
+OldWithin (Ok (Some n)) old = n ≤ length old
+OldWithin (Ok None) old = Unit {0}
+OldWithin (Err x) old = Unit {0}
 
-pub record ChangeAsked (x : Old) (old out : Bytes) (at : ℕ) : Type 0 where
+pub record ChangeAsked (x : rust.Result (rust.Option ℕ) Refusal) (old out : Bytes) (at : ℕ) : Type 0 where
   pub within : OldWithin x old
   pub room : at + length (old_said x old) ≤ length out
 
 -- the command that `parse` told, its bytes at the front of its buffers
 
-abbrev pub told_command : Line → (key value : Bytes) → Option Command
-told_command (New s) key value = some (makes s.fanout s.pool s.arena)
-told_command (Put n m) key value = some (puts (take n key) (take m value))
-told_command (Get n) key value = some (gets (take n key))
-told_command (Del n) key value = some (dels (take n key))
-told_command (Next n) key value = some (nexts (take n key))
-told_command Leaves key value = some shows
-told_command Bad key value = none
+abbrev pub told_command : rust.Option Line → (key value : Bytes) → Option Command
+told_command (Some (New s)) key value = some (makes s.fanout s.pool s.arena)
+told_command (Some (Put n m)) key value = some (puts (take n key) (take m value))
+told_command (Some (Get n)) key value = some (gets (take n key))
+told_command (Some (Del n)) key value = some (dels (take n key))
+told_command (Some (Next n)) key value = some (nexts (take n key))
+told_command (Some Leaves) key value = some shows
+told_command None key value = none
 
 abbrev pub LineWithin : Line → (key value : Bytes) → Type 0
 LineWithin (New s) key value = Unit {0}
@@ -102,7 +106,6 @@ LineWithin (Get n) key value = n ≤ length key
 LineWithin (Del n) key value = n ≤ length key
 LineWithin (Next n) key value = n ≤ length key
 LineWithin Leaves key value = Unit {0}
-LineWithin Bad key value = Unit {0}
 
 -- a line other than `new`
 abbrev pub Ordinary : Line → Type 0
@@ -112,7 +115,6 @@ Ordinary (Get n) = Unit {0}
 Ordinary (Del n) = Unit {0}
 Ordinary (Next n) = Unit {0}
 Ordinary Leaves = Unit {0}
-Ordinary Bad = Unit {0}
 
 pub record LineAsked (h : Header) (dir slots arena : List ℕ) (line : Line) (key value old out : List ℕ) (at : ℕ) : Type 0 where
   pub asked : ServeAsked h dir slots arena old out at
@@ -141,12 +143,16 @@ pub record NewAsked (dir slots arena out : List ℕ) (at : ℕ) : Type 0 where
   pub ample : Ample dir slots arena
   pub room : at + answer_limit ≤ length out
 
-pub record OpenAsked (s : Session) (dir slots arena : List ℕ) (line : Line) (key value old out : List ℕ) (at : ℕ) : Type 0 where
+pub record OpenAsked (s : Open) (dir slots arena : List ℕ) (line : Line) (key value old out : List ℕ) (at : ℕ) : Type 0 where
   pub ample : Ample dir slots arena
   pub state : State
-  pub carries : Carries state s dir slots arena
-  pub is_open : s.open ≡ true
+  pub carries : Carries state (holding s) dir slots arena
   pub ordinary : Ordinary line
   pub within : LineWithin line key value
   pub old_long : length old ≡ output_room
   pub room : at + answer_limit ≤ length out
+
+-- `bad line` was answered, and the session is as it was
+pub record BadReplied (s : Session) (out : Bytes) (at : ℕ) (r : Replied) (now_out : Bytes) : Type 0 where
+  pub session_is : r.session ≡ s
+  pub wrote : Wrote out now_out at (answered said.bad) r.at

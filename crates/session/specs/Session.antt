@@ -1,14 +1,15 @@
 -- What one line's answer asks and leaves in the program's buffers.
-use Rattle.std.specs.Prelude.{ℕ, ◌+◌, ◌*◌, ◌≤◌, false, true, List, ◌≡◌, length, take}
+use Rattle.std.specs.Prelude.{ℕ, ◌+◌, ◌*◌, ◌≤◌, None, Some, List, ◌≡◌, length, take}
+use Rattle.std.proofs.Common as rust
 use Rattle.std.proofs.Math.Option.{Option, none, some}
 use Rattle.answers.specs.Answers.{Wrote}
-use Rattle.layout.specs.Examples.{header}
 use Rattle.layout.specs.Lays.{Holds}
 use Rattle.lines.specs.Grammar.{Command, Says}
 use Rattle.model.specs.Good.{Good, limits}
 use Rattle.model.specs.Leaves.{Node}
 use Rattle.order.specs.Bytes.{Bytes}
 use Rattle.session.specs.Turns.{Idle, State, arena_ceiling, closed, fanout_ceiling, line_turn, opened, output_room, pool_ceiling}
+use Rattle.session.specs.declared.Open.{Open}
 use Rattle.session.specs.declared.Replied.{Replied}
 use Rattle.session.specs.declared.Session.{Session}
 
@@ -18,8 +19,7 @@ Tells line none = (c : Command) → Says line c → ⊥
 Tells line (some c) = Says line c
 
 -- the index has the fronts of the buffers, at its own sizes
-pub record Fronts (f p a : ℕ) (ns : List Node) (s : Session) (dir slots arena : List ℕ) : Type 0 where
-  pub is_open : s.open ≡ true
+pub record Fronts (f p a : ℕ) (ns : List Node) (s : Open) (dir slots arena : List ℕ) : Type 0 where
   pub fanout_is : s.header.fanout ≡ f
   pub pool_is : s.pool ≡ p
   pub arena_is : s.arena ≡ a
@@ -31,11 +31,15 @@ pub record Fronts (f p a : ℕ) (ns : List Node) (s : Session) (dir slots arena 
 
 -- before the first accepted `new`
 abbrev pub no_index : Session
-no_index = record { «open» = false; header = header 0 0 0 0; pool = 0; arena = 0 }
+no_index = record { index = None }
+
+abbrev pub FrontsIn : (f p a : ℕ) → List Node → rust.Option Open → (dir slots arena : List ℕ) → Type 0
+FrontsIn f p a ns (Some s) dir slots arena = Fronts f p a ns s dir slots arena
+FrontsIn f p a ns None dir slots arena = ⊥
 
 abbrev pub Carries : State → Session → (dir slots arena : List ℕ) → Type 0
 Carries closed s dir slots arena = s ≡ no_index
-Carries (opened f p a ns) s dir slots arena = Fronts f p a ns s dir slots arena
+Carries (opened f p a ns) s dir slots arena = FrontsIn f p a ns s.index dir slots arena
 
 -- the program's buffers: as large as its ceilings ask
 pub record Sized (dir slots arena key value old : List ℕ) : Type 0 where

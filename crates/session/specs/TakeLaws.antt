@@ -1,7 +1,8 @@
 -- Pieces of input fed one behind the other, and the lines of a piece.
 -- Assumes nothing.
-use Rattle.std.specs.Prelude.{ℕ, ◌+◌, ◌-◌, ◌≤◌, ◌<◌, false, true, List, [], ◌∷◌, ◌++◌, ◌⊎◌, ◌≡◌, refl, leb, length, take}
+use Rattle.std.specs.Prelude.{ℕ, ◌+◌, ◌-◌, ◌≤◌, ◌<◌, None, Some, false, List, [], ◌∷◌, ◌++◌, ◌⊎◌, ◌≡◌, refl, leb, length, take}
 use Rattle.std.proofs.Common.{append_assoc, append-nil, inl, inr, sym, ap, subst, ◌∙◌, eq-or-lt_of_le, arith, take_all, length-take-le}
+use Rattle.std.proofs.Common as rust
 use Rattle.std.proofs.Math.Option.{Option, none, some}
 use Rattle.std.proofs.Math.Decide.{dec_le}
 use Rattle.answers.specs.Answers.{Wrote}
@@ -12,7 +13,7 @@ use Rattle.feed.specs.declared.Gathered.{Gathered}
 use Rattle.lines.specs.Grammar.{Command}
 use Rattle.lines.specs.OneLaws.{says_one}
 use Rattle.lists.specs.All.{All}
-use Rattle.lists.specs.Exact.{Exact, exact_iff, exact_leb, exact_no, refuted}
+use Rattle.lists.specs.Exact.{Exact, exact_iff, exact_leb, exact_no}
 use Rattle.lists.specs.Part.{part}
 use Rattle.lists.proofs.PartLaws.{part-add, put-nil}
 use Rattle.order.specs.Bytes.{Bytes}
@@ -83,13 +84,19 @@ feeds_one {z} {x = x} {held = held} {last = last} (newline {text = u} c e l p) (
 pub wrote_nothing : (out : Bytes) (at : ℕ) → Wrote out out at [] at
 wrote_nothing out at = record { is = sym (put-nil out at); behind = omega arith; long = refl }
 
+some_none : {A : Type 0} {n : ℕ} → ◌≡◌ {A = rust.Option ℕ} (Some n) None → A
+some_none e = absurd (let z : ◌≡◌ {A = ℕ} 0 1 = cc (e) in omega (arith, z))
+
+some_same : {n m : ℕ} → ◌≡◌ {A = rust.Option ℕ} (Some n) (Some m) → n ≡ m
+some_same e = cc (e)
+
 pub take_rest : {f : Fed} {g : Gathered} {dir slots arena piece line key value old out line' : List ℕ} → LineAsked f dir slots arena piece line key value old out
-    → Gathers piece f.next line f.held g line' → g.whole ≡ false
-    → LineTaken f dir slots arena piece line out (record { session = f.session; next = g.next; held = g.held; at = f.at }) dir slots arena line' out
+    → Gathers piece f.next line f.held g line' → g.next ≡ None
+    → LineTaken f dir slots arena piece line out (record { session = f.session; next = length piece; held = g.held; at = f.at }) dir slots arena line' out
 take_rest {f} {g} {dir} {slots} {arena} {piece} {line} {key} {value} {old} {out} {line'} a x w =
-    let b : x.end < length piece → ⊥ = refuted w x.ended in
+    let b : x.end < length piece → ⊥ = λ l. some_none (sym (x.behind l) ∙ w) in
     let d : x.end ≡ length piece = omega (arith, x.ends.within) in
-    let n : g.next ≡ x.end = x.last d in
+    let n : length piece ≡ x.end = sym d in
     record {
       taken = record {
         onward = omega (arith, x.ends.onward);
@@ -113,17 +120,17 @@ pub line_reply : {f : Fed} {dir slots arena piece line key value old out : List 
     → ReplyAsked f.session dir slots arena key value old out f.at
 line_reply a = record { sized = a.asked.sized; state = a.asked.state; carries = a.asked.carries; room = a.room }
 
-pub take_whole : {f : Fed} {g : Gathered} {r : Replied} {dir slots arena piece line key value old out line' dir' slots' arena' out' : List ℕ}
-    → LineAsked f dir slots arena piece line key value old out → Gathers piece f.next line f.held g line' → g.whole ≡ true
-    → ReplyMade f.session dir slots arena (part line' 0 (g.held - 0)) out f.at r dir' slots' arena' out'
-    → LineTaken f dir slots arena piece line out (record { session = r.session; next = g.next; held = 0; at = r.at }) dir' slots' arena' line' out'
-take_whole {f} {g} {r} {dir} {slots} {arena} {piece} {line} {key} {value} {old} {out} {line'} {dir'} {slots'} {arena'} {out'} a x w m =
-    let b : x.end < length piece = x.ended.sound w in
-    let n : g.next ≡ x.end + 1 = x.behind b in
+pub take_whole : {f : Fed} {g : Gathered} {next : ℕ} {r : Replied} {dir slots arena piece line key value old out line' dir' slots' arena' out' : List ℕ}
+    → LineAsked f dir slots arena piece line key value old out → Gathers piece f.next line f.held g line' → g.next ≡ Some next
+    → ReplyMade f.session dir slots arena (take g.held line') out f.at r dir' slots' arena' out'
+    → LineTaken f dir slots arena piece line out (record { session = r.session; next = next; held = 0; at = r.at }) dir' slots' arena' line' out'
+take_whole {f} {g} {next} {r} {dir} {slots} {arena} {piece} {line} {key} {value} {old} {out} {line'} {dir'} {slots'} {arena'} {out'} a x w m =
+    let b : x.end < length piece = before (eq-or-lt_of_le x.ends.within) in
+    let n : next ≡ x.end + 1 = some_same (sym w ∙ x.behind b) in
     let text : Bytes = part piece f.next (x.end - f.next) in
     let long : length line' ≡ line_room = x.holds.long ∙ a.asked.line_long in
-    let kept : (held : Bytes) → Keeps line f.held held → part line' 0 (g.held - 0) ≡ take line_room (held ++ text) = λ held p.
-    ap (λ (j : ℕ). take j line') (let z : g.held - 0 ≡ g.held = omega arith in z) ∙ (keeps_more p x.holds).front ∙ ap (λ (j : ℕ). take j (held ++ text)) long in
+    let kept : (held : Bytes) → Keeps line f.held held → take g.held line' ≡ take line_room (held ++ text) = λ held p.
+    (keeps_more p x.holds).front ∙ ap (λ (j : ℕ). take j (held ++ text)) long in
     let told : (held : Bytes) → Keeps line f.held held → Tells (held ++ text) m.said = λ held p.
     tells_front (held ++ text) m.said (subst (λ (l : Bytes). Tells l m.said) (kept held p) m.tells) in
     record {
@@ -145,6 +152,10 @@ take_whole {f} {g} {r} {dir} {slots} {arena} {piece} {line} {key} {value} {old} 
       };
       further = omega (arith, x.ends.onward);
     }
+  where
+    before : (x.end ≡ length piece) ⊎ (x.end < length piece) → x.end < length piece
+    before (inl d) = some_none (sym w ∙ x.last d)
+    before (inr l) = l
 
 -- one piece behind the other
 

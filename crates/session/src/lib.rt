@@ -1,20 +1,19 @@
 // A run of the script program: which index there is, if any, and what each line does.
 #![tactic(auto)]
 
-ghost use Rattle.std.specs.Prelude.{◌≡◌};
+ghost use Rattle.std.specs.Prelude.{Some, length, ◌+◌, ◌≡◌, ◌≤◌};
 ghost use Rattle.std.proofs.Math.Option.{some};
-ghost use Rattle.answers.specs.Answers.{Wrote};
+ghost use Rattle.answers.specs.Answers.{Wrote, answered, bad};
 ghost use Rattle.lines.specs.Grammar.Command.{dels, puts};
-ghost use Rattle.session.specs.Serving.{ChangeAsked, LineAsked, NewAsked, OpenAsked, RepliedBy, ServeAsked, ServedBy, has_index, old_said, told_command};
+ghost use Rattle.session.specs.Serving.{BadReplied, ChangeAsked, LineAsked, NewAsked, OpenAsked, RepliedBy, ServeAsked, ServedBy, has_index, holding, old_said, told_command};
 ghost use Rattle.session.specs.Session.{ReplyAsked, ReplyMade, no_index};
 ghost use Rattle.session.specs.Turns.{Idle, NewIdle, above, line_turn, new_turn};
 
-use answers::{write_bad, write_none, write_old};
-use changes::Old;
+use answers::{Answer, write};
 use layout::Header;
 use lines::{Line, Sizes, parse};
 use model::Refusal;
-use replies::{Opened, refuse, reply_get, reply_leaves, reply_new, reply_next};
+use replies::{refuse, reply_get, reply_leaves, reply_new, reply_next};
 use tree_insert::insert;
 use tree_remove::remove;
 
@@ -27,24 +26,29 @@ pub const POOL_CEILING: usize = 64;
 
 pub const ARENA_CEILING: usize = 16384;
 
-// Whether there is an index, its header, and how much of the directory buffer and of the arena is its own.
-#[derive(Clone, Copy)]
+/// Which index there is, if any.
+#[derive(Debug, Clone, Copy, PartialEq, Eq)]
 pub struct Session {
-    pub open: bool,
+    pub index: Option<Open>,
+}
+
+/// An index in the fronts of the buffers: its header, and how much of the directory buffer and of the arena is its own.
+#[derive(Debug, Clone, Copy, PartialEq, Eq)]
+pub struct Open {
     pub header: Header,
     pub pool: usize,
     pub arena: usize,
 }
 
 // A session and the place behind what was written.
-#[derive(Clone, Copy)]
+#[derive(Debug, Clone, Copy, PartialEq, Eq)]
 pub struct Replied {
     pub session: Session,
     pub at: usize,
 }
 
 // A header and the place behind what was written.
-#[derive(Clone, Copy)]
+#[derive(Debug, Clone, Copy, PartialEq, Eq)]
 struct Served {
     pub header: Header,
     pub at: usize,
@@ -54,27 +58,18 @@ struct Served {
 pub fn closed() -> Session
     ensures { result ≡ no_index }
 {
-    Session {
-        open: false,
-        header: Header {
-            fanout: 0,
-            leaves: 0,
-            pairs: 0,
-            charge: 0,
-        },
-        pool: 0,
-        arena: 0,
-    }
+    Session { index: None }
 }
 
 fn opened(header: Header, pool: usize, arena: usize) -> Session
     ensures { result ≡ has_index header pool arena }
 {
     Session {
-        open: true,
-        header: header,
-        pool: pool,
-        arena: arena,
+        index: Some(Open {
+            header,
+            pool,
+            arena,
+        }),
     }
 }
 
@@ -109,34 +104,31 @@ fn start_afresh(
             at: refuse(Refusal::Shape, out, at),
         };
     }
-    let pool = n.pool;
-    let words = n.fanout * pool;
-    let length = n.arena;
-    match reply_new(
+    let words = n.fanout * n.pool;
+    let r = reply_new(
         n.fanout,
-        &mut dir[..pool],
+        &mut dir[..n.pool],
         &mut slots[..words],
-        &arena[..length],
+        &arena[..n.arena],
         out,
         at,
-    ) {
-        Opened::Made(header, e) => Replied {
-            session: opened(header, pool, length),
-            at: e,
-        },
-        Opened::Kept(e) => Replied { session: s, at: e },
-    }
+    );
+    let session = match r.header {
+        Some(header) => opened(header, n.pool, n.arena),
+        None => s,
+    };
+    Replied { session, at: r.at }
 }
 
 // What a changing call handed back.
-fn write_change(x: Old, old: &[u8], out: &mut [u8], at: usize) -> usize
+fn write_change(x: Result<Option<usize>, Refusal>, old: &[u8], out: &mut [u8], at: usize) -> usize
     requires { ChangeAsked x old.now out.old at }
     ensures { Wrote out.old out.new at (old_said x old.now) result }
 {
     match x {
-        Old::Value(n) => write_old(out, at, &old[..n]),
-        Old::Nothing => write_none(out, at),
-        Old::Refused(r) => refuse(r, out, at),
+        Ok(Some(n)) => write(out, at, Answer::Old(&old[..n])),
+        Ok(None) => write(out, at, Answer::Nothing),
+        Err(r) => refuse(r, out, at),
     }
 }
 
@@ -156,11 +148,9 @@ fn reply_put(
     ensures { ServedBy (some (puts key.now value.now)) h dir.old slots.old arena.old out.old at result dir.new slots.new arena.new out.new }
 {
     let r = insert(h, dir, slots, arena, key, value, old);
-    let header = r.header;
-    let change = r.old;
     Served {
-        header: header,
-        at: write_change(change, old, out, at),
+        header: r.header,
+        at: write_change(r.old, old, out, at),
     }
 }
 
@@ -179,11 +169,9 @@ fn reply_del(
     ensures { ServedBy (some (dels key.now)) h dir.old slots.old arena.old out.old at result dir.new slots.new arena.new out.new }
 {
     let r = remove(h, dir, slots, arena, key, old);
-    let header = r.header;
-    let change = r.old;
     Served {
-        header: header,
-        at: write_change(change, old, out, at),
+        header: r.header,
+        at: write_change(r.old, old, out, at),
     }
 }
 
@@ -201,7 +189,7 @@ fn serve(
     at: usize,
 ) -> Served
     requires { LineAsked h dir.old slots.old arena.old line key.now value.now old.old out.old at }
-    ensures { ServedBy (told_command line key.now value.now) h dir.old slots.old arena.old out.old at result dir.new slots.new arena.new out.new }
+    ensures { ServedBy (told_command (Some line) key.now value.now) h dir.old slots.old arena.old out.old at result dir.new slots.new arena.new out.new }
 {
     match line {
         Line::Put(n, m) => { reply_put(h, dir, slots, arena, &key[..n], &value[..m], old, out, at) }
@@ -218,16 +206,13 @@ fn serve(
             at: reply_leaves(h, dir, slots, arena, out, at),
         },
         Line::Del(n) => reply_del(h, dir, slots, arena, &key[..n], old, out, at),
-        Line::New(_) | Line::Bad => Served {
-            header: h,
-            at: write_bad(out, at),
-        },
+        Line::New(_) => unreachable!(),
     }
 }
 
 // A line other than `new`, where there is an index: it has the fronts of the buffers.
 fn reply_open(
-    s: Session,
+    index: Open,
     dir: &mut [u32],
     slots: &mut [u64],
     arena: &mut [u8],
@@ -238,18 +223,15 @@ fn reply_open(
     out: &mut [u8],
     at: usize,
 ) -> Replied
-    requires { OpenAsked s dir.old slots.old arena.old line key.now value.now old.old out.old at }
-    ensures { RepliedBy (λ z. line_turn z (told_command line key.now value.now)) (λ z. Idle z (told_command line key.now value.now)) s dir.old slots.old arena.old out.old at result dir.new slots.new arena.new out.new }
+    requires { OpenAsked index dir.old slots.old arena.old line key.now value.now old.old out.old at }
+    ensures { RepliedBy (λ z. line_turn z (told_command (Some line) key.now value.now)) (λ z. Idle z (told_command (Some line) key.now value.now)) (holding index) dir.old slots.old arena.old out.old at result dir.new slots.new arena.new out.new }
 {
-    let pool = s.pool;
-    let words = s.header.fanout * pool;
-    let length = s.arena;
-    let header = s.header;
+    let words = index.header.fanout * index.pool;
     let r = serve(
-        header,
-        &mut dir[..pool],
+        index.header,
+        &mut dir[..index.pool],
         &mut slots[..words],
-        &mut arena[..length],
+        &mut arena[..index.arena],
         line,
         key,
         value,
@@ -257,14 +239,24 @@ fn reply_open(
         out,
         at,
     );
-    let now = r.header;
     Replied {
-        session: opened(now, pool, length),
+        session: opened(r.header, index.pool, index.arena),
         at: r.at,
     }
 }
 
-// The answer to one line.
+// A line that says nothing, or asks for an index where there is none.
+fn reply_bad(s: Session, out: &mut [u8], at: usize) -> Replied
+    requires { at + length (answered bad) ≤ length out.old }
+    ensures { BadReplied s out.old at result out.new }
+{
+    Replied {
+        session: s,
+        at: write(out, at, Answer::Bad),
+    }
+}
+
+/// The answer to one line.
 pub fn reply(
     s: Session,
     dir: &mut [u32],
@@ -280,15 +272,14 @@ pub fn reply(
     requires { ReplyAsked s dir.old slots.old arena.old key.old value.old old.old out.old at }
     ensures { ReplyMade s dir.old slots.old arena.old line.now out.old at result dir.new slots.new arena.new out.new }
 {
-    let said = parse(line, key, value);
+    let Some(said) = parse(line, key, value) else {
+        return reply_bad(s, out, at);
+    };
     if let Line::New(n) = said {
         return start_afresh(s, n, dir, slots, arena, out, at);
     }
-    if !s.open {
-        return Replied {
-            session: s,
-            at: write_bad(out, at),
-        };
-    }
-    reply_open(s, dir, slots, arena, said, key, value, old, out, at)
+    let Some(index) = s.index else {
+        return reply_bad(s, out, at);
+    };
+    reply_open(index, dir, slots, arena, said, key, value, old, out, at)
 }

@@ -11,7 +11,7 @@ use feed::gather;
 pub const ANSWER_LIMIT: usize = 133120;
 
 // A session, the place behind what was written, how far the piece of input was taken, and how many bytes of a line are held.
-#[derive(Clone, Copy)]
+#[derive(Debug, Clone, Copy, PartialEq, Eq)]
 pub struct Fed {
     pub session: Session,
     pub next: usize,
@@ -35,23 +35,29 @@ fn take_line(
     requires { LineAsked f dir.old slots.old arena.old piece.now line.old key.old value.old old.old out.old }
     ensures { LineTaken f dir.old slots.old arena.old piece.now line.old out.old result dir.new slots.new arena.new line.new out.new }
 {
-    let s = f.session;
-    let at = f.at;
     let g = gather(piece, f.next, line, f.held);
-    let n = g.held;
-    if !g.whole {
+    let Some(next) = g.next else {
         return Fed {
-            session: s,
-            next: g.next,
-            held: n,
-            at: at,
+            next: piece.len(),
+            held: g.held,
+            ..f
         };
-    }
-    let r = reply(s, dir, slots, arena, &line[0..n], key, value, old, out, at);
-    let now = r.session;
+    };
+    let r = reply(
+        f.session,
+        dir,
+        slots,
+        arena,
+        &line[..g.held],
+        key,
+        value,
+        old,
+        out,
+        f.at,
+    );
     Fed {
-        session: now,
-        next: g.next,
+        session: r.session,
+        next,
         held: 0,
         at: r.at,
     }

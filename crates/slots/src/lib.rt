@@ -1,15 +1,13 @@
 // The slot map of document 01: the slot words of one leaf edited. A pair taken out, put in, its value replaced; keys shortened after a split.
+// (On parts, and no type with the index as its fact: these functions run in the middle of a change, where the buffers hold none.)
 #![tactic(auto)]
 
 ghost use Rattle.std.specs.Prelude.{◌≡◌, ◌∷◌, ◌++◌, ◌+◌, ◌^◌, ◌≤◌, ◌<◌, length};
 ghost use Rattle.lists.specs.Part.{part, put};
 ghost use Rattle.slots.specs.Edits.{PutIn, Puts, Replaced, Replaces, Shortened, Shortens, TakenOut, Takes, slot_of};
 
-use moves::{copy_bytes, move_words, raise};
-use words::{
-    Offset, Slot, SlotNo, first_slot, leaf_number, pack_directory, pack_slot, pair_count,
-    unpack_slot,
-};
+use moves::{copy_into, move_within, raise};
+use words::{Offset, Slot, SlotNo, first_slot, leaf_number, pack_directory, pack_slot, pair_count};
 
 // One more in a word's offset, one less in its suffix length.
 const SHIFT_UNIT: u64 = 0xF_FF00_0000;
@@ -19,9 +17,7 @@ fn slot_at(fanout: usize, d: u32, i: usize) -> SlotNo
     requires { slot_of fanout d i < 2 ^ 64 }
     ensures { result.0 ≡ slot_of fanout d i }
 {
-    let leaf = leaf_number(d);
-    let first = first_slot(fanout, leaf);
-    SlotNo(first.0 + i)
+    SlotNo(first_slot(fanout, leaf_number(d)).0 + i)
 }
 
 // The i-th pair taken out of the leaf at the directory's place j. Its bytes stay, a hole in the arena.
@@ -32,9 +28,8 @@ pub fn take_out(dir: &mut [u32], slots: &mut [u64], fanout: usize, j: usize, i: 
     let d = dir[j];
     let leaf = leaf_number(d);
     let count = pair_count(d);
-    let at = slot_at(fanout, d, i);
-    let to = at.0;
-    move_words(slots, to + 1, count - (i + 1), to);
+    let at = slot_at(fanout, d, i).0;
+    move_within(slots, at + 1, count - (i + 1), at);
     dir[j] = pack_directory(leaf, count - 1);
 }
 
@@ -43,9 +38,8 @@ pub fn shorten_keys(slots: &mut [u64], fanout: usize, d: u32, g: usize)
     requires { Shortens fanout slots.old d g }
     ensures { Shortened fanout slots.old d g slots.new }
 {
-    let count = pair_count(d);
     let first = slot_at(fanout, d, 0);
-    raise(slots, first.0, count, g as u64 * SHIFT_UNIT);
+    raise(slots, first.0, pair_count(d), g as u64 * SHIFT_UNIT);
 }
 
 // The i-th pair's value replaced by one that is not longer, in its place.
@@ -60,16 +54,12 @@ pub fn replace_value(
     requires { Replaces fanout slots.old arena.old d i value.now }
     ensures { Replaced fanout slots.old arena.old d i value.now slots.new arena.new }
 {
-    let at = slot_at(fanout, d, i);
-    let k = at.0;
-    let s = unpack_slot(slots[k]);
-    let offset = s.offset;
-    let length = value.len();
-    copy_bytes(arena, offset.0 + s.suffix, value);
-    slots[k] = pack_slot(Slot {
-        offset: offset,
-        suffix: s.suffix,
-        value: length,
+    let at = slot_at(fanout, d, i).0;
+    let s = Slot::from(slots[at]);
+    copy_into(arena, s.offset.0 + s.suffix, value);
+    slots[at] = pack_slot(Slot {
+        value: value.len(),
+        ..s
     });
 }
 
@@ -78,8 +68,8 @@ fn write_pair(arena: &mut [u8], at: Offset, suffix: &[u8], value: &[u8])
     requires { at.0 + (length suffix.now + length value.now) ≤ length arena.old }
     ensures { arena.new ≡ put arena.old at.0 (suffix.now ++ value.now) }
 {
-    copy_bytes(arena, at.0, suffix);
-    copy_bytes(arena, at.0 + suffix.len(), value);
+    copy_into(arena, at.0, suffix);
+    copy_into(arena, at.0 + suffix.len(), value);
 }
 
 // The n words from a place on up by one, and w written there.
@@ -87,9 +77,8 @@ fn open_word(slots: &mut [u64], at: SlotNo, n: usize, w: u64)
     requires { at.0 + n + 1 ≤ length slots.old }
     ensures { slots.new ≡ put slots.old at.0 (w ∷ part slots.old at.0 n) }
 {
-    let k = at.0;
-    move_words(slots, k, n, k + 1);
-    slots[k] = w;
+    move_within(slots, at.0, n, at.0 + 1);
+    slots[at.0] = w;
 }
 
 // A pair put in before the i-th of the leaf at the directory's place j, its bytes written into a gap of the arena.

@@ -4,6 +4,7 @@ use Rattle.std.specs.Prelude.{◌+◌, ◌<◌, ◌≤◌, suc, ℕ, List, [], �
 use Rattle.std.proofs.Common.{append_assoc, ◌∙◌, sym, arith, length-append, length-take, take-append-drop}
 use Rattle.std.proofs.Math.Path.{ap}
 use Rattle.std.proofs.Math.Seq.{split_at}
+use Rattle.judge.specs.Judges.{half_slot, right_half}
 use Rattle.judge.specs.declared.Plan.{Plan}
 use Rattle.layout.specs.Presumed.{Presumed}
 use Rattle.layout.specs.declared.Header.{Header}
@@ -103,9 +104,9 @@ module _ {h : Header} {dir slots arena : List ℕ} {ns : List Node} (x : Presume
   front_long : length front ≡ p.leaf
   front_long = rw length-take (omega (arith, leaf_in))
 
-  pub all_but_pair : PairLess k v (spot_of p).leaf p.slot (cut_nodes sep p ns) (insert_rule h.fanout k v ns)
+  pub all_but_pair : PairLess k v (spot_of p).leaf (half_slot p.half) (cut_nodes sep p ns) (insert_rule h.fanout k v ns)
   all_but_pair =
-      elim (truth p.right) [
+      elim (truth (right_half p.half)) [
         | fails e ↦
             (let g = a.plan.left e in
             record {

@@ -1,9 +1,9 @@
 -- One half's keys shortened: the half's low key and upper key are read where the leaf list is laid out at any prefix lengths, and the leaf list
 -- laid out then is the same, with L2's prefix length for that half.
 -- Assumes nothing.
-use Rattle.std.specs.Prelude.{◌<◌, suc, ℕ, List, [], ◌++◌, ◌∷◌, ◌≡◌, drop, get_or, length, take}
+use Rattle.std.specs.Prelude.{◌<◌, suc, ℕ, List, [], ◌++◌, ◌∷◌, ◌≡◌, drop, get_or, length, take, Some, None}
 use Rattle.std.proofs.Math.Option.{some}
-use Rattle.std.proofs.Common.{◌∙◌, ap, ap₂, sym, get_or-take, length-take-le}
+use Rattle.std.proofs.Common.{◌∙◌, ap, ap₂, sym, get_or-take, length-take-le, Option}
 use native.Mathlib.Omega.{arith}
 use Rattle.std.proofs.Math.Seq.{split_at}
 use Rattle.directory.specs.Used.{lent}
@@ -16,8 +16,6 @@ use Rattle.layout.proofs.LaysWords.{region_in}
 use Rattle.layout.specs.Order.{leaf_words}
 use Rattle.layout.specs.declared.Header.{Header}
 use Rattle.leaf.specs.Keys.{KeyAt, UpperAt, key_at, upper_at}
-use Rattle.leaf.specs.declared.Upper.{Upper}
-use Rattle.leaf.specs.declared.Upper.TheVariants.{At, Nothing}
 use Rattle.leaf_edit.specs.Shorten.{CanShorten, Halved, ShortenedKeys}
 use Rattle.lists.specs.All.{All, all_at}
 use Rattle.model.specs.Leaves.{Node, node, prefix_length}
@@ -81,20 +79,20 @@ module _ {h : Header} {dir slots arena : List ℕ} {j old : ℕ} {ps : List ℕ}
 
   -- the upper key read
 
-  upper_stands : (upper : Upper) → UpperRead h dir slots j upper → UpperAt arena 0 upper
-  upper_stands (At u) r = low_key_at (suc j) r.0 r.1
-  upper_stands Nothing r = tt
+  upper_stands : (upper : Option LowKey) → UpperRead h dir slots j upper → UpperAt arena 0 upper
+  upper_stands (Some u) r = low_key_at (suc j) r.0 r.1
+  upper_stands None r = tt
 
-  upper_is : (upper : Upper) → UpperRead h dir slots j upper → upper_at arena upper ≡ upper_of ns j
-  upper_is (At u) r = ap some (low_key_is (suc j) r.0 r.1) ∙ sym (low_from (node 0 [] []) (suc j) ns (omega (arith, count, r.0)))
-  upper_is Nothing r = sym (low_none (suc j) ns (omega (arith, count, r)))
+  upper_is : (upper : Option LowKey) → UpperRead h dir slots j upper → upper_at arena upper ≡ upper_of ns j
+  upper_is (Some u) r = ap some (low_key_is (suc j) r.0 r.1) ∙ sym (low_from (node 0 [] []) (suc j) ns (omega (arith, count, r.0)))
+  upper_is None r = sym (low_none (suc j) ns (omega (arith, count, r)))
 
   -- both read: the keys can be shortened
 
   abbrev around : Around b (get_or dir j 0)
   around = around_place b dir h.leaves ps ns (node 0 [] []) (length dir) j a.lays a.apart used a.leaf_in
 
-  module _ {low : LowKey} {upper : Upper} (l : LowKeyUnpacked (get_or slots (low_place h dir j) 0) low) (u : UpperRead h dir slots j upper) where
+  module _ {low : LowKey} {upper : Option LowKey} (l : LowKeyUnpacked (get_or slots (low_place h dir j) 0) low) (u : UpperRead h dir slots j upper) where
     halved : Halved h.fanout slots arena (get_or dir j 0) old low upper around
     halved = record {
       old_is = a.old_is;
@@ -116,7 +114,7 @@ module _ {h : Header} {dir slots arena : List ℕ} {j old : ℕ} {ps : List ℕ}
 
 -- `shorten_half`, call by call
 
-module _ {h : Header} {dir slots arena : List ℕ} {j old : ℕ} {low : LowKey} {upper : Upper}
+module _ {h : Header} {dir slots arena : List ℕ} {j old : ℕ} {low : LowKey} {upper : Option LowKey}
     (s : CanShortenHalf h dir slots arena j old) (l : LowKeyUnpacked (get_or slots (low_place h dir j) 0) low) (u : UpperRead h dir slots j upper) where
   pub can_shorten : CanShorten h.fanout slots arena (get_or dir j 0) old low upper
   can_shorten = half_shortens s.asked l u

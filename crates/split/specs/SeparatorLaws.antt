@@ -4,10 +4,14 @@ use Rattle.std.specs.Prelude.{◌+◌, ◌-◌, ◌<◌, ◌^◌, ◌≤◌, suc
 use Rattle.std.proofs.Common.{◌∙◌, ap, subst, sym, arith, drop_of_length-le, length-append, length-take}
 use Rattle.std.proofs.Math.Decide.{dec_lt}
 use Rattle.std.proofs.Math.Seq.{take-nil}
-use Rattle.judge.specs.Judges.{key_in}
+use Rattle.judge.specs.Judges.{half_slot, key_in, right_half}
+use Rattle.judge.specs.declared.Half.{Half}
+use Rattle.judge.specs.declared.Half.TheVariants.{Left, Right}
 use Rattle.judge.specs.declared.Plan.{Plan}
-use Rattle.layout.specs.Presumed.{Index, Presumed}
+use Rattle.layout.specs.Presumed.{Presumed}
+use Rattle.layout.specs.Viewed.{Views}
 use Rattle.layout.specs.declared.Header.{Header}
+use Rattle.layout.specs.declared.lent.View.{View}
 use Rattle.lists.specs.All.{all_at}
 use Rattle.lists.proofs.PartLaws.{length-part, length-put, part-put_in}
 use Rattle.lists.specs.Part.{part, put}
@@ -27,8 +31,15 @@ use Rattle.split.specs.Splits.{CanWriteSeparator, SeparatorWritten, SplitAsked}
 
 -- the smallest right key is a stored one
 pub data StoredFirst (p : Plan) : Type 0 where
-  new_left : p.right ≡ false → StoredFirst p
-  new_later : p.right ≡ true → (p.slot ≡ 0 → ⊥) → StoredFirst p
+  new_left : right_half p.half ≡ false → StoredFirst p
+  new_later : right_half p.half ≡ true → (half_slot p.half ≡ 0 → ⊥) → StoredFirst p
+
+pub stored_first : (p : Plan) → (p.half ≡ Right 0 → ⊥) → StoredFirst p
+stored_first p n = go p.half refl
+  where
+    go : (q : Half) → p.half ≡ q → StoredFirst p
+    go (Left i) e = new_left (ap right_half e)
+    go (Right i) e = new_later (ap right_half e) (λ z. n (e ∙ ap Right (sym (ap half_slot e) ∙ z)))
 
 -- the spot of the stored pair in front of which the plan cuts
 abbrev pub cut_spot : Plan → Spot
@@ -73,7 +84,7 @@ module _ {h : Header} {pool arena : ℕ} {k v : Bytes} {p : Plan} {ns : List Nod
       past (new_left e) l =
           let g = a.plan.left e in
           not_below_nil k (subst (λ (b : Bytes). k ≺ b) (g.bytes ∙ ap (take p.separator) (no_key m p.cut l) ∙ take-nil p.separator) g.below)
-      past (new_later e n) l = n (no_gap k m p.cut p.slot (a.plan.right e).stands l)
+      past (new_later e n) l = n (no_gap k m p.cut (half_slot p.half) (a.plan.right e).stands l)
 
   pub stored_leaf_in : StoredFirst p → p.leaf < length ns
   stored_leaf_in s =
@@ -113,31 +124,28 @@ front_put : (out s : Bytes) (n : ℕ) → length s ≤ length out → n ≤ leng
 front_put out s n h l = part-put_in out 0 s 0 n (omega arith) (omega arith)
 
 module _ {h : Header} {dir slots arena : List ℕ} {k : Bytes} {p : Plan} {out : List ℕ} (a : CanWriteSeparator h dir slots arena k p out) where
-  abbrev index_of : Index h dir slots arena
-  index_of = record { nodes = a.asked.step.nodes; presumed = a.asked.step.presumed }
-
   -- the new key
 
   pub new_fits : length k ≤ length out
   new_fits = omega (arith, a.asked.step.asks.key_short, a.holds_keys)
 
-  pub new_written : {now_out : List ℕ} → p.right ≡ true → p.slot ≡ 0 → now_out ≡ put out 0 k → SeparatorWritten h dir slots arena k p out now_out
-  new_written e z w = record {
+  pub new_written : {now_out : List ℕ} → p.half ≡ Right 0 → now_out ≡ put out 0 k → SeparatorWritten h dir slots arena k p out now_out
+  new_written e w = record {
     same_out = ap length w ∙ length-put out 0 k (omega (arith, new_fits));
     bytes = λ ns x v b.
-        let q = (b.plan.right e).new_bytes z in
+        let q = (b.plan.right (ap right_half e)).new_bytes (ap half_slot e) in
         ap (take p.separator) w ∙ front_put out k p.separator new_fits (front_long b k q) ∙ sym q;
   }
 
   -- a stored key
 
   module _ (s : StoredFirst p) where
-    pub spot_asked : SpotIn h dir slots arena (cut_spot p)
+    pub spot_asked : SpotIn h dir (cut_spot p)
     spot_asked =
         let x = a.asked.step.presumed in
         let b = a.asked.step.asks in
         let l : p.leaf < h.leaves = omega (arith, stored_leaf_in b s, x.holds.leaves_are) in
-        record { index = index_of; leaf_in = l; slot_in = rw (leaf_lays x p.leaf l).count_is (stored_in b s) }
+        record { leaf_in = l; slot_in = rw (leaf_lays x p.leaf l).count_is (stored_in b s) }
 
     key_short : {ns : List Node} {v : Bytes} → Presumed h dir slots arena ns → SplitAsked h (length dir) (length arena) k v p ns
         → length (key_in (leaf_at ns p.leaf).pairs p.cut) ≤ length out
@@ -174,3 +182,12 @@ module _ {h : Header} {dir slots arena : List ℕ} {k : Bytes} {p : Plan} {out :
                 ap (take p.separator) (w ∙ ap (put out 0) e)
                 ∙ front_put out (key_in (leaf_at ns p.leaf).pairs p.cut) p.separator (key_short x b) (front_long b (key_in (leaf_at ns p.leaf).pairs p.cut) q) ∙ sym q;
           }
+
+-- asked and written on a view of what was lent
+
+module _ {w : View} {h : Header} {dir slots arena : List ℕ} (u : Views w h dir slots arena) {k : Bytes} {p : Plan} {out : List ℕ} where
+  pub asked_there : CanWriteSeparator h dir slots arena k p out → CanWriteSeparator w.header w.dir.now w.slots.now w.arena.now k p out
+  asked_there a = rw (u.header_is, u.dir_is, u.slots_are, u.arena_is) a
+
+  pub written_there : {now_out : List ℕ} → SeparatorWritten w.header w.dir.now w.slots.now w.arena.now k p out now_out → SeparatorWritten h dir slots arena k p out now_out
+  written_there b = rw (u.header_is, u.dir_is, u.slots_are, u.arena_is) at b

@@ -193,7 +193,7 @@ module _ {h : Header} {dir slots arena : List ℕ} {ns : List Node} (x : Presume
 
 -- the steps, from the contract of `split_leaf`
 
--- the front of the buffer, as `&separator[0..n]` gives it
+-- the front of the buffer, cut out from 0 on
 abbrev pub front_of : List ℕ → ℕ → Bytes
 front_of b n = take (n - 0) (drop 0 b)
 
@@ -239,8 +239,8 @@ module _ {h : Header} {dir slots arena : List ℕ} {k : Bytes} {p : Plan} (c : C
     old = leaf.prefix_length
 
     module _ {ns : List Node} (x : Presumed h dir slots arena ns) {v : Bytes} (a : SplitAsked h (length dir) (length arena) k v p ns) where
-      low_read : a.plan.separator ≡ front_of b p.separator
-      low_read = sym (front_is b p.separator ∙ w.bytes ns x v a)
+      low_read : a.plan.separator ≡ take p.separator b
+      low_read = sym (w.bytes ns x v a)
 
       free_read : lowest_free ns ≡ free
       free_read = sym (f.lowest ns (presumed_numbered x))
@@ -248,22 +248,22 @@ module _ {h : Header} {dir slots arena : List ℕ} {k : Bytes} {p : Plan} (c : C
       good : CutGood h (length dir) (length arena) ns (cut_nodes a.plan.separator p ns) a.plan.separator
       good = cut_good x k v a
 
-      code_asked : CutAsked h (length dir) (length arena) p.leaf p.cut free (front_of b p.separator) ns
+      code_asked : CutAsked h (length dir) (length arena) p.leaf p.cut free (take p.separator b) ns
       code_asked =
-          subst (λ (i : ℕ). CutAsked h (length dir) (length arena) p.leaf p.cut i (front_of b p.separator) ns) free_read
+          subst (λ (i : ℕ). CutAsked h (length dir) (length arena) p.leaf p.cut i (take p.separator b) ns) free_read
           (subst (λ (y : Bytes). CutAsked h (length dir) (length arena) p.leaf p.cut (lowest_free ns) y ns) low_read (cut_asked x a good))
 
-    pub can_cut : CanCutStored h dir slots arena p.leaf p.cut free (front_of b p.separator)
+    pub can_cut : CanCutStored h dir slots arena p.leaf p.cut free (take p.separator b)
     can_cut = record { nodes = ns₀; presumed = c.step.presumed; asks = code_asked c.step.presumed c.step.asks }
 
-    module _ {now_dir now_slots now_arena : List ℕ} (q : CutStored h dir slots arena p.leaf p.cut free (front_of b p.separator) now_dir now_slots now_arena) where
+    module _ {now_dir now_slots now_arena : List ℕ} (q : CutStored h dir slots arena p.leaf p.cut free (take p.separator b) now_dir now_slots now_arena) where
       module _ {ns : List Node} (x : Presumed h dir slots arena ns) {v : Bytes} (a : SplitAsked h (length dir) (length arena) k v p ns) where
         cut_laid : LaysAt (lent h.fanout now_slots now_arena) (take (h.leaves + 1) now_dir) (twice p.leaf (prefixes_of ns)) (cut_nodes a.plan.separator p ns)
         cut_laid =
             let t = q.laid ns x (code_asked x a) in
             subst (λ (y : Bytes). LaysAt (lent h.fanout now_slots now_arena) (take (h.leaves + 1) now_dir) (twice p.leaf (prefixes_of ns)) (cut_at (lowest_free ns) y p.leaf p.cut ns))
             (sym (low_read x a))
-            (subst (λ (i : ℕ). LaysAt (lent h.fanout now_slots now_arena) (take (h.leaves + 1) now_dir) (twice p.leaf (prefixes_of ns)) (cut_at i (front_of b p.separator) p.leaf p.cut ns))
+            (subst (λ (i : ℕ). LaysAt (lent h.fanout now_slots now_arena) (take (h.leaves + 1) now_dir) (twice p.leaf (prefixes_of ns)) (cut_at i (take p.separator b) p.leaf p.cut ns))
             (sym (free_read x a)) t)
 
         left_asked : HalfAsked (split_header h p) now_dir now_slots now_arena p.leaf old (twice p.leaf (prefixes_of ns)) (cut_nodes a.plan.separator p ns)

@@ -2,6 +2,7 @@
 -- two, the separator as the right half's low key; the new pair is not in it yet.
 use Rattle.std.specs.Prelude.{ℕ, ◌+◌, ◌^◌, ◌<◌, ◌≤◌, suc, cond, List, ◌∷◌, ◌++◌, ◌≡◌, drop, get_or, length, take}
 use Rattle.directory.specs.Used.{lent}
+use Rattle.judge.specs.Judges.{half_slot, right_half}
 use Rattle.judge.specs.Planned.{Planned}
 use Rattle.judge.specs.declared.Plan.{Plan}
 use Rattle.layout.specs.Lays.{LaysAt, prefixes_of}
@@ -27,7 +28,7 @@ abbrev pub cut_nodes : (separator : Bytes) → Plan → List Node → List Node
 cut_nodes separator p ns = cut_at (lowest_free ns) separator p.leaf p.cut ns
 
 abbrev pub spot_of : Plan → Spot
-spot_of p = record { leaf = cond p.right (suc p.leaf) p.leaf; slot = p.slot }
+spot_of p = record { leaf = cond (right_half p.half) (suc p.leaf) p.leaf; slot = half_slot p.half }
 
 -- the plan of an accepted insert
 pub record SplitAsked (h : Header) (pool arena : ℕ) (k v : Bytes) (p : Plan) (ns : List Node) : Type 0 where

@@ -5,10 +5,11 @@
 ghost use Rattle.split.specs.Splits.{CanCutStored, CanShortenHalf, CanSplit, CanWriteSeparator, CutStored, SeparatorWritten, ShortenedHalf, SplitLeaf};
 
 use directory::cut_leaf;
-use judge::Plan;
+use judge::{Half, Plan};
 use layout::Header;
+use layout::lent::View;
 use leaf_edit::shorten_keys_after_split;
-use moves::copy_bytes;
+use moves::copy_into;
 use numbers::lowest_free;
 use pieces::write_pieces;
 use room::make_room;
@@ -18,33 +19,26 @@ use words::{LeafNo, LowKey};
 
 // L5: the separator is the front of the smallest right key, which is the new key or a stored one. The whole key is written; what lies behind
 // the separator is not used.
-fn write_separator(
-    h: Header,
-    dir: &[u32],
-    slots: &[u64],
-    arena: &[u8],
-    key: &[u8],
-    p: Plan,
-    out: &mut [u8],
-)
-    requires { CanWriteSeparator h dir.now slots.now arena.now key.now p out.old }
-    ensures { SeparatorWritten h dir.now slots.now arena.now key.now p out.old out.new }
+fn write_separator(v: &View<'_>, key: &[u8], p: Plan, out: &mut [u8])
+    requires { CanWriteSeparator v.now.header v.now.dir.now v.now.slots.now v.now.arena.now key.now p out.old }
+    ensures { SeparatorWritten v.now.header v.now.dir.now v.now.slots.now v.now.arena.now key.now p out.old out.new }
 {
-    if p.right && p.slot == 0 {
-        copy_bytes(out, 0, key);
+    if p.half == Half::Right(0) {
+        copy_into(out, 0, key);
         return;
     }
-    let t = Spot {
-        leaf: p.leaf,
-        slot: p.cut,
-    };
-    let x = read_spot(h, dir, slots, arena, t);
+    let x = read_spot(
+        v,
+        Spot {
+            leaf: p.leaf,
+            slot: p.cut,
+        },
+    );
     let low = x.low.0;
-    let s = x.slot;
-    let from = s.offset.0;
+    let start = x.slot.offset.0;
     let low_end = low + x.prefix;
-    let end = from + s.suffix;
-    write_pieces(&arena[low..low_end], &arena[from..end], out)
+    let end = start + x.slot.suffix;
+    write_pieces(&v.arena[low..low_end], &v.arena[start..end], out)
 }
 
 // The pairs of the j-th leaf from its i-th slot on are the leaf `free`'s, with the low key `low`, which is written between the halves.
@@ -62,7 +56,7 @@ fn cut_stored(
     ensures { CutStored h dir.old slots.old arena.old j i free.0 low.now dir.new slots.new arena.new }
 {
     let at = make_room(dir, slots, arena, h.fanout, h.leaves, j, i, low.len());
-    copy_bytes(arena, at.0, low);
+    copy_into(arena, at.0, low);
     let key = LowKey {
         offset: at,
         length: low.len(),
@@ -93,21 +87,27 @@ pub fn split_leaf(
     requires { CanSplit h dir.old slots.old arena.old key.now p }
     ensures { SplitLeaf h dir.old slots.old arena.old key.now p result dir.new slots.new arena.new }
 {
-    let j = p.leaf;
-    let n = p.separator;
+    let view = View::new(h, dir, slots, arena);
     let mut separator = [0u8; 512];
-    write_separator(h, dir, slots, arena, key, p, &mut separator);
-    let leaf = leaf_of(h, dir, slots, arena, j);
-    let old = leaf.prefix_length;
+    write_separator(&view, key, p, &mut separator);
+    let old = leaf_of(&view, p.leaf).prefix_length;
     let free = lowest_free(dir, h.leaves);
-    cut_stored(h, dir, slots, arena, j, p.cut, free, &separator[0..n]);
+    cut_stored(
+        h,
+        dir,
+        slots,
+        arena,
+        p.leaf,
+        p.cut,
+        free,
+        &separator[..p.separator],
+    );
     let r = Header {
-        fanout: h.fanout,
         leaves: h.leaves + 1,
-        pairs: h.pairs,
-        charge: h.charge + n,
+        charge: h.charge + p.separator,
+        ..h
     };
-    shorten_half(r, dir, slots, arena, j, old);
-    shorten_half(r, dir, slots, arena, j + 1, old);
+    shorten_half(r, dir, slots, arena, p.leaf, old);
+    shorten_half(r, dir, slots, arena, p.leaf + 1, old);
     r
 }

@@ -3,26 +3,19 @@
 #![tactic(auto)]
 
 ghost use Rattle.std.specs.Prelude.{◌≤◌, length};
-ghost use Rattle.layout.specs.Presumed.{Index};
-ghost use Rattle.spots.specs.KeySpots.{KeySought};
-ghost use Rattle.spots.specs.Spots.{NextRead, SpotIn, SpotRead};
+ghost use Rattle.layout.specs.Viewed.{leaves_of};
+ghost use Rattle.spots.specs.KeySpots.{Stands};
+ghost use Rattle.spots.specs.Spots.{NextRead, PairAt, SpotIn};
 
-use layout::Header;
-use leaf::Find;
+use layout::lent::View;
 use leaf::search::find;
 use route::{leaf_of, low_key, owner};
-use words::{Offset, Slot, first_slot, leaf_number, pair_count, unpack_slot};
+use words::{Offset, Slot, first_slot, leaf_number, pair_count};
 
-#[derive(Clone, Copy)]
+#[derive(Debug, Clone, Copy, PartialEq, Eq)]
 pub struct Spot {
     pub leaf: usize,
     pub slot: usize,
-}
-
-#[derive(Clone, Copy)]
-pub enum Next {
-    At(Spot),
-    Past,
 }
 
 // A pair in the arena: its leaf's prefix at the front of the low key, then its own suffix with the value right behind.
@@ -33,59 +26,42 @@ pub struct Pieced {
     pub slot: Slot,
 }
 
-// A key in the leaf that owns it (L1): at a pair, or in the gap before a slot.
-#[derive(Clone, Copy)]
-pub enum Sought {
-    At(Spot),
-    Gap(Spot),
-}
-
 // The key is routed to its leaf first, so it begins with that leaf's prefix, and only its part from there on is sought.
-pub fn seek(h: Header, dir: &[u32], slots: &[u64], arena: &[u8], key: &[u8]) -> Sought
-    requires { Index h dir.now slots.now arena.now }
-    ensures { KeySought h dir.now slots.now arena.now key.now result }
+pub fn seek(v: &View<'_>, key: &[u8]) -> Result<Spot, Spot>
+    ensures { Stands key.now (leaves_of v.now) result }
 {
-    let j = owner(h, dir, slots, arena, key);
-    let leaf = leaf_of(h, dir, slots, arena, j);
-    let p = leaf.prefix_length;
-    match find(slots, arena, leaf, &key[p..]) {
-        Find::At(i) => Sought::At(Spot { leaf: j, slot: i }),
-        Find::Gap(i) => Sought::Gap(Spot { leaf: j, slot: i }),
+    let leaf = owner(v, key);
+    let read = leaf_of(v, leaf);
+    match find(v.slots, v.arena, read, &key[read.prefix_length..]) {
+        Ok(slot) => Ok(Spot { leaf, slot }),
+        Err(slot) => Err(Spot { leaf, slot }),
     }
 }
 
 // Leaves without a pair from the spot on are passed over, however many they are.
-pub fn next_spot(leaves: usize, dir: &[u32], s: Spot) -> Next
+pub fn next_spot(leaves: usize, dir: &[u32], s: Spot) -> Option<Spot>
     requires { leaves ≤ length dir.now }
     ensures { NextRead leaves dir.now s result }
 {
-    let mut j = s.leaf;
-    let mut i = s.slot;
-    while j < leaves {
-        if i < pair_count(dir[j]) {
-            return Next::At(Spot { leaf: j, slot: i });
+    let mut slot = s.slot;
+    for leaf in s.leaf..leaves {
+        if slot < pair_count(dir[leaf]) {
+            return Some(Spot { leaf, slot });
         }
-        j += 1;
-        i = 0;
+        slot = 0;
     }
-    Next::Past
+    None
 }
 
-pub fn read_spot(h: Header, dir: &[u32], slots: &[u64], arena: &[u8], t: Spot) -> Pieced
-    requires { SpotIn h dir.now slots.now arena.now t }
-    ensures { SpotRead h dir.now slots.now arena.now t result }
+pub fn read_spot(v: &View<'_>, t: Spot) -> Pieced
+    requires { SpotIn v.now.header v.now.dir.now t }
+    ensures { PairAt v.now t result }
 {
-    let j = t.leaf;
-    let d = dir[j];
-    let low = low_key(h.fanout, slots, d);
-    let leaf = leaf_of(h, dir, slots, arena, j);
-    let first = first_slot(h.fanout, leaf_number(d));
-    let at = first.0 + t.slot;
-    let slot = unpack_slot(slots[at]);
-    let from = low.offset;
+    let d = v.dir[t.leaf];
+    let first = first_slot(v.header.fanout, leaf_number(d));
     Pieced {
-        low: from,
-        prefix: leaf.prefix_length,
-        slot: slot,
+        low: low_key(v.header.fanout, v.slots, d).offset,
+        prefix: leaf_of(v, t.leaf).prefix_length,
+        slot: Slot::from(v.slots[first.0 + t.slot]),
     }
 }

@@ -1,7 +1,7 @@
 -- How tight the contracts are: any two outcomes allowed for one input coincide, answer, header and every lent word.
 -- Assumes nothing.
 use Rattle.std.specs.Prelude.{ℕ, List, ◌≡◌, length}
-use Rattle.std.proofs.Common.{◌∙◌, sym}
+use Rattle.std.proofs.Common.{◌∙◌, sym, Result}
 use Rattle.layout.proofs.Examples.{fresh_good}
 use Rattle.layout.specs.Examples.{header}
 use Rattle.layout.specs.Lays.{W}
@@ -12,7 +12,6 @@ use Rattle.model.specs.Leaves.{Node}
 use Rattle.model.specs.declared.Refusal.{Refusal}
 use Rattle.tree_create.specs.Outcomes.{ClearOutcome, CreateOutcome, FreshBy, Freshened, LenOutcome, Untouched}
 use Rattle.tree_create.specs.declared.Answered.{Answered}
-use Rattle.tree_create.specs.declared.Length.{Length}
 use Rattle.tree_read.specs.Decided.{dec_w}
 
 -- two outcomes with what they leave
@@ -55,7 +54,7 @@ clear_coincides h dir slots arena a b =
       | no n ↦ untouched_same dir slots (a.damaged n) (b.damaged n)
     ]
 
-pub len_coincides : (h : Header) (dir slots arena : List ℕ) {r q : Length} → LenOutcome h dir slots arena r → LenOutcome h dir slots arena q → r ≡ q
+pub len_coincides : (h : Header) (dir slots arena : List ℕ) {r q : Result ℕ Refusal} → LenOutcome h dir slots arena r → LenOutcome h dir slots arena q → r ≡ q
 len_coincides h dir slots arena a b =
     elim (dec_w h dir slots arena) [
       | yes w ↦ (a.held w).answer_is ∙ sym (b.held w).answer_is

@@ -1,19 +1,16 @@
 -- What `create`, `clear` and `len` answer and leave: the model's answer, told in the calls' own types.
-use Rattle.std.specs.Prelude.{ℕ, List, [], ◌∷◌, ◌≡◌, length}
+use Rattle.std.proofs.Common.{Result}
+use Rattle.std.specs.Prelude.{ℕ, List, [], ◌∷◌, ◌≡◌, length, Ok, Err}
 use Rattle.layout.specs.Entry.{Entry}
 use Rattle.layout.specs.Examples.{header}
 use Rattle.layout.specs.Lays.{Holds}
 use Rattle.layout.specs.declared.Header.{Header}
 use Rattle.lists.specs.Part.{put}
-use Rattle.model.specs.Answers.{Answer, Code, Gives, accepted, answer_code, clear_answer, code_of, create_answer, len_answer, no_refusal, refused}
+use Rattle.model.specs.Answers.{Answer, Gives, accepted, answer_code, clear_answer, code_of, create_answer, len_answer, no_refusal, refused, result_code, told}
 use Rattle.model.specs.Leaves.{Node}
 use Rattle.model.specs.declared.Refusal.{Refusal}
 use Rattle.model.specs.declared.Refusal.TheVariants.{Damaged}
 use Rattle.tree_create.specs.declared.Answered.{Answered}
-use Rattle.tree_create.specs.declared.Change.{Change}
-use Rattle.tree_create.specs.declared.Change.TheVariants.{Done, Refused}
-use Rattle.tree_create.specs.declared.Length.{Length}
-use Rattle.tree_create.specs.declared.Length.TheVariants.{Pairs, Unmeasured}
 use Rattle.words.specs.Words.{directory_word, low_key_slot, low_key_word}
 
 -- L8 in the buffers: the first directory word and the low-key word of leaf 0; every other word as it was
@@ -22,23 +19,18 @@ pub record MadeFresh (fanout : ℕ) (dir slots now_dir now_slots : List ℕ) (h 
   pub dir_is : now_dir ≡ put dir 0 (directory_word 0 0 ∷ [])
   pub slots_are : now_slots ≡ put slots (low_key_slot fanout 0) (low_key_word 0 0 ∷ [])
 
--- document 01's number and length of an answer
-abbrev pub change_code : Change → Code
-change_code Done = no_refusal
-change_code (Refused x) = code_of x
-
 -- refused: the header as said, every lent word as it was
 pub record Untouched (x : Refusal) (h : Header) (dir slots now_dir now_slots : List ℕ) (r : Answered) : Type 0 where
-  pub answer_is : r.answer ≡ Refused x
-  pub code_is : change_code r.answer ≡ code_of x
+  pub answer_is : r.answer ≡ Err x
+  pub code_is : result_code r.answer ≡ code_of x
   pub header_is : r.header ≡ h
   pub dir_is : now_dir ≡ dir
   pub slots_are : now_slots ≡ slots
 
 -- accepted: fresh buffers, and they hold the leaf list
 pub record Freshened (fanout : ℕ) (dir slots arena now_dir now_slots : List ℕ) (ns : List Node) (r : Answered) : Type 0 where
-  pub answer_is : r.answer ≡ Done
-  pub code_is : change_code r.answer ≡ no_refusal
+  pub answer_is : r.answer ≡ Ok tt
+  pub code_is : result_code r.answer ≡ no_refusal
   pub fresh : MadeFresh fanout dir slots now_dir now_slots r.header
   pub holds : Holds r.header now_dir now_slots arena ns
 
@@ -57,14 +49,6 @@ ClearOutcome h dir slots arena now_dir now_slots r =
     Entry h dir slots arena (Untouched Damaged h dir slots now_dir now_slots r)
     (λ ns. FreshBy (clear_answer ns) h.fanout h dir slots arena now_dir now_slots r)
 
-abbrev pub len_told : Answer ℕ → Length
-len_told (refused x) = Unmeasured x
-len_told (accepted n) = Pairs n
-
-abbrev pub length_code : Length → Code
-length_code (Pairs n) = no_refusal
-length_code (Unmeasured x) = code_of x
-
-abbrev pub LenOutcome : Header → (dir slots arena : List ℕ) → Length → Type 0
+abbrev pub LenOutcome : Header → (dir slots arena : List ℕ) → Result ℕ Refusal → Type 0
 LenOutcome h dir slots arena r =
-    Entry h dir slots arena (Gives length_code (Unmeasured Damaged) (code_of Damaged) r) (λ ns. Gives length_code (len_told (len_answer ns)) (answer_code (len_answer ns)) r)
+    Entry h dir slots arena (Gives result_code (Err Damaged) (code_of Damaged) r) (λ ns. Gives result_code (told (λ n. n) (len_answer ns)) (answer_code (len_answer ns)) r)

@@ -1,4 +1,5 @@
-// A fresh index in lent buffers, an index made fresh again, and its pair count.
+// An index made in lent buffers, made fresh again, and its pair count.
+// (Header, directory, slots and arena stay apart in the parameters: document 01 lends them so, to callers in C and Rust too.)
 #![tactic(auto)]
 
 ghost use Rattle.std.specs.Prelude.{◌<◌, length};
@@ -9,26 +10,15 @@ use layout::Header;
 use leaf::Leaf;
 use model::Refusal;
 use tree_read::check::holds_index;
+use tree_read::open::open;
 use tree_read::sizes::sizes_met;
 use words::{LowKey, Offset, low_key_slot, pack_directory, pack_low_key};
 
-#[derive(Clone, Copy)]
-pub enum Change {
-    Done,
-    Refused(Refusal),
-}
-
-// A changing call's answer, with the header as it then is.
-#[derive(Clone, Copy)]
+/// A changing call's answer, with the header as it then is.
+#[derive(Debug, Clone, Copy, PartialEq, Eq)]
 pub struct Answered {
     pub header: Header,
-    pub answer: Change,
-}
-
-#[derive(Clone, Copy)]
-pub enum Length {
-    Pairs(usize),
-    Unmeasured(Refusal),
+    pub answer: Result<(), Refusal>,
 }
 
 // L8: one leaf, pool number 0, low key empty, no pairs. All other words and bytes stay.
@@ -37,23 +27,20 @@ fn make_fresh(fanout: usize, dir: &mut [u32], slots: &mut [u64]) -> Header
     ensures { MadeFresh fanout dir.old slots.old dir.new slots.new result }
 {
     let leaf = Leaf::empty(fanout);
-    let number = leaf.number;
-    let at = low_key_slot(fanout, number);
-    let i = at.0;
-    dir[0] = pack_directory(number, leaf.pairs);
-    slots[i] = pack_low_key(LowKey {
+    dir[0] = pack_directory(leaf.number, leaf.pairs);
+    slots[low_key_slot(fanout, leaf.number).0] = pack_low_key(LowKey {
         offset: Offset(0),
         length: 0,
     });
     Header {
-        fanout: fanout,
+        fanout,
         leaves: 1,
         pairs: leaf.pairs,
         charge: 0,
     }
 }
 
-// The arena is lent for its length alone.
+/// A fresh index in lent buffers, or `Refusal::Shape`. The arena is lent for its length alone.
 pub fn create(fanout: usize, dir: &mut [u32], slots: &mut [u64], arena: &[u8]) -> Answered
     ensures { CreateOutcome fanout dir.old slots.old arena.now dir.new slots.new result }
 {
@@ -65,37 +52,34 @@ pub fn create(fanout: usize, dir: &mut [u32], slots: &mut [u64], arena: &[u8]) -
                 pairs: 0,
                 charge: 0,
             },
-            answer: Change::Refused(Refusal::Shape),
+            answer: Err(Refusal::Shape),
         };
     }
-    let header = make_fresh(fanout, dir, slots);
     Answered {
-        header: header,
-        answer: Change::Done,
+        header: make_fresh(fanout, dir, slots),
+        answer: Ok(()),
     }
 }
 
+/// The index made fresh again, or `Refusal::Damaged`.
 pub fn clear(h: Header, dir: &mut [u32], slots: &mut [u64], arena: &[u8]) -> Answered
     ensures { ClearOutcome h dir.old slots.old arena.now dir.new slots.new result }
 {
     if !holds_index(h, dir, slots, arena) {
         return Answered {
             header: h,
-            answer: Change::Refused(Refusal::Damaged),
+            answer: Err(Refusal::Damaged),
         };
     }
-    let header = make_fresh(h.fanout, dir, slots);
     Answered {
-        header: header,
-        answer: Change::Done,
+        header: make_fresh(h.fanout, dir, slots),
+        answer: Ok(()),
     }
 }
 
-pub fn len(h: Header, dir: &[u32], slots: &[u64], arena: &[u8]) -> Length
+/// How many pairs the index has, or `Refusal::Damaged`.
+pub fn len(h: Header, dir: &[u32], slots: &[u64], arena: &[u8]) -> Result<usize, Refusal>
     ensures { LenOutcome h dir.now slots.now arena.now result }
 {
-    if !holds_index(h, dir, slots, arena) {
-        return Length::Unmeasured(Refusal::Damaged);
-    }
-    Length::Pairs(h.pairs)
+    Ok(open(h, dir, slots, arena)?.header.pairs)
 }

@@ -1,20 +1,19 @@
 -- How tight the contracts are: any two outcomes allowed for one input coincide, with the places of a value and of the keys.
 -- Assumes nothing.
-use Rattle.std.specs.Prelude.{ℕ, List, ◌≡◌}
-use Rattle.std.proofs.Math.Option.{Option, none, some}
-use Rattle.std.proofs.Common.{◌∙◌, ap, sym}
+use Rattle.std.specs.Prelude.{Bool, List, None, Ok, Some, refl, ℕ, ◌≡◌}
+use Rattle.std.proofs.Math.Option as math
+use Rattle.std.proofs.Math.Option.{none, some}
+use Rattle.std.proofs.Common.{Option, Result, ap, sym, ◌∙◌}
 use Rattle.layout.specs.Entry.{Entry}
 use Rattle.layout.specs.declared.Header.{Header}
-use Rattle.model.specs.Answers.{Answer, Code, Gives, accepted, leaf_answer, refused}
+use Rattle.model.specs.Answers.{Code, Gives, leaf_at}
 use Rattle.model.specs.Answers as model
 use Rattle.model.specs.Leaves.{Node}
+use Rattle.model.specs.declared.Refusal.{Refusal}
 use Rattle.order.specs.Bytes.{Bytes}
-use Rattle.tree_get.specs.Outcomes.{ContainsOutcome, GetOutcome, LeafOutcome, ShownBy, ValueOutcome, Views}
-use Rattle.tree_get.specs.declared.Contained.{Contained}
+use Rattle.tree_get.specs.Outcomes.{ContainsOutcome, GetOutcome, LeafOutcome, ShownBy, Views, ValueOutcome}
 use Rattle.tree_get.specs.declared.Found.{Found}
 use Rattle.tree_get.specs.declared.Shown.{Shown}
-use Rattle.tree_get.specs.declared.Shown.TheVariants.{Leaf}
-use Rattle.tree_get.specs.declared.View.{View}
 use Rattle.tree_read.specs.Decided.{dec_w}
 
 module _ (h : Header) (dir slots arena : List ℕ) where
@@ -36,31 +35,34 @@ module _ (h : Header) (dir slots arena : List ℕ) where
         | no n ↦ (a.damaged n).answer_is ∙ sym (b.damaged n).answer_is
       ]
 
-  pub get_coincides : (k : Bytes) {r q : Found} → GetOutcome h dir slots arena k r → GetOutcome h dir slots arena k q → r ≡ q
+  pub get_coincides : (k : Bytes) {r q : Result (Option Found) Refusal} → GetOutcome h dir slots arena k r → GetOutcome h dir slots arena k q → r ≡ q
   get_coincides k a b = given_answer a b
 
-  pub contains_coincides : (k : Bytes) {r q : Contained} → ContainsOutcome h dir slots arena k r → ContainsOutcome h dir slots arena k q → r ≡ q
+  pub contains_coincides : (k : Bytes) {r q : Result Bool Refusal} → ContainsOutcome h dir slots arena k r → ContainsOutcome h dir slots arena k q → r ≡ q
   contains_coincides k a b = given_answer a b
 
   pub value_coincides : (k : Bytes) {v u : Bytes} → ValueOutcome h dir slots arena k v → ValueOutcome h dir slots arena k u → v ≡ u
   value_coincides k a b = one_answer a b
 
-view_path : (v u : View) → v.low ≡ u.low → v.upper ≡ u.upper → v.prefix_length ≡ u.prefix_length → v.pairs ≡ u.pairs → v ≡ u
+view_path : (v u : Shown) → v.low ≡ u.low → v.upper ≡ u.upper → v.prefix_length ≡ u.prefix_length → v.pairs ≡ u.pairs → v ≡ u
 view_path v u l t p n = λ i. record { low = l i; upper = t i; prefix_length = p i; pairs = n i }
 
 module _ (h : Header) (dir slots arena : List ℕ) (j : ℕ) where
-  views_same : {s : model.Shown} (v u : View) → Views h dir slots arena j s v → Views h dir slots arena j s u → v ≡ u
+  views_same : {s : model.Shown} (v u : Shown) → Views h dir slots arena j s v → Views h dir slots arena j s u → v ≡ u
   views_same v u a b =
       view_path v u (a.low_stands ∙ sym b.low_stands) (a.upper_stands ∙ sym b.upper_stands) (a.prefix_is ∙ sym b.prefix_is) (a.pairs_are ∙ sym b.pairs_are)
 
-  shown_same : (m : Answer (Option model.Shown)) {r q : Shown} → ShownBy h dir slots arena j m r → ShownBy h dir slots arena j m q → r ≡ q
-  shown_same (refused x) a b = a ∙ sym b
-  shown_same (accepted none) a b = a ∙ sym b
-  shown_same (accepted (some s)) a b = a.answer_is ∙ ap Leaf (views_same a.view b.view a.views b.views) ∙ sym b.answer_is
+  shown_same : (m : math.Option model.Shown) (o q : Option Shown) → ShownBy h dir slots arena j m o → ShownBy h dir slots arena j m q → o ≡ q
+  shown_same none None None a b = refl
+  shown_same (some s) (Some v) (Some u) a b = ap Some (views_same v u a b)
+  shown_same none None (Some u) a b = absurd b
+  shown_same none (Some v) q a b = absurd a
+  shown_same (some s) None q a b = absurd a
+  shown_same (some s) (Some v) None a b = absurd b
 
-  pub leaf_coincides : {r q : Shown} → LeafOutcome h dir slots arena j r → LeafOutcome h dir slots arena j q → r ≡ q
+  pub leaf_coincides : {r q : Result (Option Shown) Refusal} → LeafOutcome h dir slots arena j r → LeafOutcome h dir slots arena j q → r ≡ q
   leaf_coincides a b =
       elim (dec_w h dir slots arena) [
-        | yes w ↦ shown_same (leaf_answer j w.nodes) (a.held w).shown (b.held w).shown
+        | yes w ↦ (a.held w).answer_is ∙ ap Ok (shown_same (leaf_at j w.nodes) _ _ (a.held w).shows (b.held w).shows) ∙ sym (b.held w).answer_is
         | no n ↦ (a.damaged n).answer_is ∙ sym (b.damaged n).answer_is
       ]

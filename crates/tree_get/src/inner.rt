@@ -1,43 +1,49 @@
-// What the calls do once W is tested. These presume W less its clause on empty leaves; they are no entry points.
-ghost use Rattle.layout.specs.Presumed.{Index};
-ghost use Rattle.tree_get.specs.Outcomes.{GetInner, LeafInner};
+// What the calls do once W is tested: they read a view.
+ghost use Rattle.tree_get.specs.Outcomes.{ContainsRead, GetRead, LeafSeen};
 
-use crate::{Found, Shown, View};
-use layout::Header;
+use crate::{Found, Shown};
+use layout::lent::View;
 use leaf::Leaf;
 use model::Refusal;
 use route::{leaf_of, low_key, upper_key};
-use spots::{Sought, read_spot, seek};
+use spots::{read_spot, seek};
 use words::Offset;
 
-pub fn get(h: Header, dir: &[u32], slots: &[u64], arena: &[u8], key: &[u8]) -> Found
-    requires { Index h dir.now slots.now arena.now }
-    ensures { GetInner h dir.now slots.now arena.now key.now result }
+pub fn get(v: &View<'_>, key: &[u8]) -> Result<Option<Found>, Refusal>
+    ensures { GetRead v.now key.now result }
 {
     if Leaf::long_key(key.len()) {
-        return Found::Refused(Refusal::LongKey);
+        return Err(Refusal::LongKey);
     }
-    let Sought::At(t) = seek(h, dir, slots, arena, key) else {
-        return Found::Nothing;
+    let Ok(t) = seek(v, key) else {
+        return Ok(None);
     };
-    let x = read_spot(h, dir, slots, arena, t);
-    let s = x.slot;
-    Found::At(Offset(s.offset.0 + s.suffix), s.value)
+    let s = read_spot(v, t).slot;
+    let found = Found {
+        at: Offset(s.offset.0 + s.suffix),
+        length: s.value,
+    };
+    Ok(Some(found))
 }
 
-pub fn leaf_at(h: Header, dir: &[u32], slots: &[u64], arena: &[u8], place: usize) -> Shown
-    requires { Index h dir.now slots.now arena.now }
-    ensures { LeafInner h dir.now slots.now arena.now place result }
+pub fn contains_key(v: &View<'_>, key: &[u8]) -> Result<bool, Refusal>
+    ensures { ContainsRead v.now key.now result }
 {
-    if h.leaves <= place {
-        return Shown::End;
+    Ok(get(v, key)?.is_some())
+}
+
+pub fn leaf_at(v: &View<'_>, place: usize) -> Option<Shown>
+    ensures { LeafSeen v.now place result }
+{
+    if v.header.leaves <= place {
+        return None;
     }
-    let low = low_key(h.fanout, slots, dir[place]);
-    let upper = upper_key(h, dir, slots, place);
-    let leaf = leaf_of(h, dir, slots, arena, place);
-    Shown::Leaf(View {
-        low: low,
-        upper: upper,
+    let low = low_key(v.header.fanout, v.slots, v.dir[place]);
+    let upper = upper_key(v.header, v.dir, v.slots, place);
+    let leaf = leaf_of(v, place);
+    Some(Shown {
+        low,
+        upper,
         prefix_length: leaf.prefix_length,
         pairs: leaf.pairs,
     })

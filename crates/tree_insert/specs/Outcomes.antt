@@ -1,5 +1,5 @@
 -- What `insert` answers and leaves, and what the functions under it ask.
-use Rattle.std.specs.Prelude.{ℕ, List, ◌≡◌, length}
+use Rattle.std.specs.Prelude.{ℕ, List, ◌≡◌, length, Ok}
 use Rattle.changes.specs.Outcomes.{ChangedBy, Kept, Lent, value_in}
 use Rattle.changes.specs.declared.Changed.{Changed}
 use Rattle.judge.specs.Judges.{Judges, Replaces}
@@ -32,7 +32,7 @@ InsertOutcome h k v before r after = Entry h before.dir before.slots before.aren
 -- a full leaf split, so that the new pair has its place in a leaf that stays below F pairs
 
 abbrev pub FitAsked : Header → (dir slots arena : List ℕ) → (k v : Bytes) → (out : ℕ) → Fit → List Node → Type 0
-FitAsked h dir slots arena k v out f ns = Judges h dir slots arena k v out ns (Insert f)
+FitAsked h dir slots arena k v out f ns = Judges h dir slots arena k v out ns (Ok (Insert f))
 
 pub record CanFit (h : Header) (dir slots arena : List ℕ) (k : Bytes) (f : Fit) : Type 0 where
   pub value : Bytes

@@ -1,11 +1,12 @@
 -- What `split_if_full` has to show: a leaf that stays below F pairs is ready for the new pair as it is, a full one is once it is cut as planned.
 -- Assumes nothing.
-use Rattle.std.specs.Prelude.{ℕ, ◌+◌, ◌<◌, ◌^◌, suc, cond, false, true, List, ◌≡◌, refl, length}
+use Rattle.std.specs.Prelude.{ℕ, ◌+◌, ◌<◌, ◌^◌, suc, List, ◌≡◌, refl, length}
 use Rattle.std.proofs.Common.{subst, arith}
 use Rattle.judge.specs.Judges.{Splits}
 use Rattle.judge.specs.Planned.{planned}
 use Rattle.judge.specs.declared.Fit.{Fit}
 use Rattle.judge.specs.declared.Fit.TheVariants.{Full, Slack}
+use Rattle.judge.specs.declared.Half.TheVariants.{Left, Right}
 use Rattle.judge.specs.declared.Plan.{Plan}
 use Rattle.layout.specs.Presumed.{Presumed}
 use Rattle.layout.specs.declared.Header.{Header}
@@ -84,12 +85,10 @@ module _ {h : Header} {dir slots arena : List ℕ} {k : Bytes} {f : Fit} where
 
 -- the half's place, as the code counts it
 
-pub spot_right : (p : Plan) → p.right ≡ true → spot_of p ≡ record { leaf = p.leaf + 1; slot = p.slot }
+pub spot_right : (p : Plan) {i : ℕ} → p.half ≡ Right i → spot_of p ≡ record { leaf = p.leaf + 1; slot = i }
 spot_right p e =
-    let q : cond p.right (suc p.leaf) p.leaf ≡ p.leaf + 1 = rw e (omega arith) in
-    λ i. record { leaf = q i; slot = p.slot }
+    let q : suc p.leaf ≡ p.leaf + 1 = omega arith in
+    rw (e, q)
 
-pub spot_left : (p : Plan) → p.right ≡ false → spot_of p ≡ record { leaf = p.leaf; slot = p.slot }
-spot_left p e =
-    let q : cond p.right (suc p.leaf) p.leaf ≡ p.leaf = rw e in
-    λ i. record { leaf = q i; slot = p.slot }
+pub spot_left : (p : Plan) {i : ℕ} → p.half ≡ Left i → spot_of p ≡ record { leaf = p.leaf; slot = i }
+spot_left p e = rw e

@@ -3,15 +3,16 @@ ghost use Rattle.changes.specs.Outcomes.{lent};
 ghost use Rattle.layout.specs.Presumed.{Index};
 ghost use Rattle.tree_insert.specs.Outcomes.{CanFit, CanReplaceOld, InsertInner, ReplacedOld, SplitIfFull};
 
-use changes::{Changed, Old, write_old};
-use judge::{Fit, Judged, judge};
+use changes::{Changed, write_old};
+use judge::{Fit, Half, Judged, judge};
 use layout::Header;
+use layout::lent::View;
 use pair_edit::{insert_pair, remove_pair, replace_pair};
 use split::split_leaf;
 use spots::Spot;
 
 // Where a new pair goes, in an index that has room for it.
-#[derive(Clone, Copy)]
+#[derive(Debug, Clone, Copy, PartialEq, Eq)]
 struct Placed {
     header: Header,
     spot: Spot,
@@ -24,26 +25,23 @@ fn split_if_full(
     slots: &mut [u64],
     arena: &mut [u8],
     key: &[u8],
-    f: Fit,
+    fit: Fit,
 ) -> Placed
-    requires { CanFit h dir.old slots.old arena.old key.now f }
-    ensures { SplitIfFull h dir.old slots.old arena.old key.now f result dir.new slots.new arena.new }
+    requires { CanFit h dir.old slots.old arena.old key.now fit }
+    ensures { SplitIfFull h dir.old slots.old arena.old key.now fit result dir.new slots.new arena.new }
 {
-    match f {
-        Fit::Slack(t) => Placed { header: h, spot: t },
+    match fit {
+        Fit::Slack(spot) => Placed { header: h, spot },
         Fit::Full(p) => {
-            let r = split_leaf(h, dir, slots, arena, key, p);
-            let mut leaf = p.leaf;
-            if p.right {
-                leaf += 1;
-            }
-            Placed {
-                header: r,
-                spot: Spot {
-                    leaf: leaf,
-                    slot: p.slot,
+            let header = split_leaf(h, dir, slots, arena, key, p);
+            let spot = match p.half {
+                Half::Left(slot) => Spot { leaf: p.leaf, slot },
+                Half::Right(slot) => Spot {
+                    leaf: p.leaf + 1,
+                    slot,
                 },
-            }
+            };
+            Placed { header, spot }
         }
     }
 }
@@ -81,25 +79,26 @@ pub fn insert(
     requires { Index h dir.old slots.old arena.old }
     ensures { InsertInner h key.now value.now (lent dir.old slots.old arena.old out.old) result (lent dir.new slots.new arena.new out.new) }
 {
-    match judge(h, dir, slots, arena, key, value, out.len()) {
-        Judged::Refuse(x) => Changed {
+    let view = View::new(h, dir, slots, arena);
+    match judge(&view, key, value, out.len()) {
+        Err(refusal) => Changed {
             header: h,
-            old: Old::Refused(x),
+            old: Err(refusal),
         },
-        Judged::Replace(t) => {
-            let old = write_old(h, dir, slots, arena, t, out);
-            let r = replace_old(h, dir, slots, arena, t, old, key, value);
+        Ok(Judged::Replace(t)) => {
+            let old = write_old(&view, t, out);
+            let header = replace_old(h, dir, slots, arena, t, old, key, value);
             Changed {
-                header: r,
-                old: Old::Value(old),
+                header,
+                old: Ok(Some(old)),
             }
         }
-        Judged::Insert(f) => {
-            let placed = split_if_full(h, dir, slots, arena, key, f);
-            let r = insert_pair(placed.header, dir, slots, arena, placed.spot, key, value);
+        Ok(Judged::Insert(fit)) => {
+            let placed = split_if_full(h, dir, slots, arena, key, fit);
+            let header = insert_pair(placed.header, dir, slots, arena, placed.spot, key, value);
             Changed {
-                header: r,
-                old: Old::Nothing,
+                header,
+                old: Ok(None),
             }
         }
     }

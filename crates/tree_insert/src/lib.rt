@@ -1,4 +1,5 @@
 // `insert`: a new pair, or a new value for a key that has one. The old value is written to the lent output.
+// (Header, directory, slots and arena stay apart in the parameters: document 01 lends them so, to callers in C and Rust too.)
 #![tactic(auto)]
 
 ghost use Rattle.changes.specs.Outcomes.{lent};
@@ -6,7 +7,7 @@ ghost use Rattle.tree_insert.specs.Outcomes.{InsertOutcome};
 
 pub mod inner;
 
-use changes::{Changed, Old};
+use changes::Changed;
 use layout::Header;
 use model::Refusal;
 use tree_read::check::holds_index;
@@ -25,7 +26,7 @@ pub fn insert(
     if !holds_index(h, dir, slots, arena) {
         return Changed {
             header: h,
-            old: Old::Refused(Refusal::Damaged),
+            old: Err(Refusal::Damaged),
         };
     }
     inner::insert(h, dir, slots, arena, key, value, out)

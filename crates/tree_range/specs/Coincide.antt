@@ -3,7 +3,8 @@
 -- Assumes nothing.
 use Rattle.std.specs.Prelude.{ℕ, List, [], ◌≡◌, length}
 use Rattle.std.proofs.Math.Option.{Option}
-use Rattle.std.proofs.Common.{◌∙◌, ap, subst, sym}
+use Rattle.std.proofs.Common as rust
+use Rattle.std.proofs.Common.{Result, ◌∙◌, ap, subst, sym}
 use Rattle.layout.specs.Entry.{Entry}
 use Rattle.layout.specs.declared.Header.{Header}
 use Rattle.model.specs.Answers.{Answer, first_answer, get_gt_answer, range_answer, range_found}
@@ -14,12 +15,13 @@ use Rattle.model.specs.declared.Bound.TheVariants.{Open}
 use Rattle.model.specs.declared.Range.{Range}
 use Rattle.order.specs.Bytes.{Bytes}
 use Rattle.tree_range.specs.Outcomes.{FirstOutcome, GtOutcome, RangeOutcome, RangeValueOutcome, Scans, Untouched, value_told}
-use Rattle.tree_range.specs.declared.Scan.{Scan}
+use Rattle.model.specs.declared.Refusal.{Refusal}
+use Rattle.tree_range.specs.declared.Seen.{Seen}
 use Rattle.tree_read.specs.Decided.{dec_w}
 
 module _ (h : Header) (dir slots arena : List ℕ) where
   -- by the model's answer, whichever call it is of
-  same : (answer : List Node → Answer (Option Pair)) (out : Bytes) {out₁ out₂ : Bytes} {r q : Scan}
+  same : (answer : List Node → Answer (Option Pair)) (out : Bytes) {out₁ out₂ : Bytes} {r q : Result (rust.Option Seen) Refusal}
       → Entry h dir slots arena (Untouched out out₁ r) (λ ns. Scans h dir slots arena ns (answer ns) out out₁ r)
       → Entry h dir slots arena (Untouched out out₂ q) (λ ns. Scans h dir slots arena ns (answer ns) out out₂ q) → (r ≡ q) × (out₁ ≡ out₂)
   same answer out a b =
@@ -28,15 +30,15 @@ module _ (h : Header) (dir slots arena : List ℕ) where
         | no n ↦ ((a.damaged n).answer_is ∙ sym (b.damaged n).answer_is, (a.damaged n).out_is ∙ sym (b.damaged n).out_is)
       ]
 
-  pub range_coincides : (range : Range) (s e out : Bytes) {out₁ out₂ : Bytes} {r q : Scan}
+  pub range_coincides : (range : Range) (s e out : Bytes) {out₁ out₂ : Bytes} {r q : Result (rust.Option Seen) Refusal}
       → RangeOutcome h dir slots arena range s e out out₁ r → RangeOutcome h dir slots arena range s e out out₂ q → (r ≡ q) × (out₁ ≡ out₂)
   range_coincides range s e out a b = same (range_answer range s e (length out)) out a b
 
-  pub gt_coincides : (k out : Bytes) {out₁ out₂ : Bytes} {r q : Scan}
+  pub gt_coincides : (k out : Bytes) {out₁ out₂ : Bytes} {r q : Result (rust.Option Seen) Refusal}
       → GtOutcome h dir slots arena k out out₁ r → GtOutcome h dir slots arena k out out₂ q → (r ≡ q) × (out₁ ≡ out₂)
   gt_coincides k out a b = same (get_gt_answer k (length out)) out a b
 
-  pub first_coincides : (out : Bytes) {out₁ out₂ : Bytes} {r q : Scan}
+  pub first_coincides : (out : Bytes) {out₁ out₂ : Bytes} {r q : Result (rust.Option Seen) Refusal}
       → FirstOutcome h dir slots arena out out₁ r → FirstOutcome h dir slots arena out out₂ q → (r ≡ q) × (out₁ ≡ out₂)
   first_coincides out a b = same (first_answer (length out)) out a b
 
@@ -50,7 +52,7 @@ module _ (h : Header) (dir slots arena : List ℕ) where
 
   -- an outcome for one key beside an open bound is one for any other
 
-  module _ (range : Range) {out now_out : Bytes} {r : Scan} where
+  module _ (range : Range) {out now_out : Bytes} {r : Result (rust.Option Seen) Refusal} where
     scans_as : (a b : List Node → Answer (Option Pair)) → ((ns : List Node) → a ns ≡ b ns)
         → Entry h dir slots arena (Untouched out now_out r) (λ ns. Scans h dir slots arena ns (a ns) out now_out r)
         → Entry h dir slots arena (Untouched out now_out r) (λ ns. Scans h dir slots arena ns (b ns) out now_out r)

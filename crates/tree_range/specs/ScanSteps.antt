@@ -1,14 +1,13 @@
 -- A scan's steps met: what the bounds decide by themselves, the slot from which it begins, the spot, and the pair there against the end.
 -- Assumes nothing.
-use Rattle.std.specs.Prelude.{◌+◌, ◌-◌, ◌<◌, ◌^◌, ◌≤◌, ℕ, Bool, ◌&&◌, false, true, List, [], ◌++◌, ◌≡◌, refl, ltb, drop, length, take}
+use Rattle.std.specs.Prelude.{◌+◌, ◌-◌, ◌<◌, ◌^◌, ◌≤◌, ℕ, Bool, ◌&&◌, false, true, List, [], ◌++◌, ◌≡◌, refl, ltb, drop, length, take, Ok, Err}
+use Rattle.std.specs.declared.cmp.Ordering.{Ordering}
 use Rattle.std.proofs.Math.Bool.{and-false}
-use Rattle.std.proofs.Common.{◌∙◌, ap, sym, arith}
+use Rattle.std.proofs.Common.{◌∙◌, ap, sym, arith, Result}
 use Rattle.layout.specs.Pieces.{Pieces}
 use Rattle.layout.specs.Presumed.{Presumed}
 use Rattle.layout.specs.declared.Header.{Header}
 use Rattle.leaf.specs.Finds.{find_told}
-use Rattle.leaf.specs.declared.Find.{Find}
-use Rattle.leaf.specs.declared.Find.TheVariants.{At, Gap}
 use Rattle.leaf.specs.declared.Leaf.{Leaf}
 use Rattle.lists.specs.Exact.{Exact, exact_ltb, exact_same}
 use Rattle.lists.specs.Part.{part}
@@ -26,10 +25,9 @@ use Rattle.model.specs.declared.Bound.TheVariants.{Excluded, Included, Open}
 use Rattle.model.specs.declared.Range.{Range}
 use Rattle.order.specs.Bytes.{Bytes, cmp}
 use Rattle.order.specs.Compared.{Compared}
-use Rattle.order.specs.declared.Ordering.{Ordering}
 use Rattle.route.specs.RouteLaws.{leaf_lays, routed}
 use Rattle.route.specs.Routes.{LeafIs, leaf_at}
-use Rattle.spots.specs.Spots.{SpotIn, SpotRead}
+use Rattle.spots.specs.Spots.{PairRead}
 use Rattle.spots.specs.declared.Pieced.{Pieced}
 use Rattle.spots.specs.declared.Spot.{Spot}
 use Rattle.tree_range.specs.Scans.{slot_at}
@@ -77,18 +75,18 @@ module _ (r : Range) (s e : Bytes) where
 
 -- the slot from which a scan begins
 
-pub slot_gap : (b : Bound) {f : Find} {i : ℕ} → f ≡ Gap i → i ≡ slot_at b f
+pub slot_gap : (b : Bound) {f : Result ℕ ℕ} {i : ℕ} → f ≡ Err i → i ≡ slot_at b f
 slot_gap Included e = rw e
 slot_gap Excluded e = rw e
 slot_gap Open e = rw e
 
-pub slot_included : {b : Bound} {f : Find} {i : ℕ} → b ≡ Included → f ≡ At i → i ≡ slot_at b f
+pub slot_included : {b : Bound} {f : Result ℕ ℕ} {i : ℕ} → b ≡ Included → f ≡ Ok i → i ≡ slot_at b f
 slot_included e g = rw (e, g)
 
-pub slot_excluded : {b : Bound} {f : Find} {i : ℕ} → b ≡ Excluded → f ≡ At i → i + 1 ≡ slot_at b f
+pub slot_excluded : {b : Bound} {f : Result ℕ ℕ} {i : ℕ} → b ≡ Excluded → f ≡ Ok i → i + 1 ≡ slot_at b f
 slot_excluded e g = rw (e, g) (omega arith)
 
-pub slot_open : {b : Bound} {f : Find} {i : ℕ} → b ≡ Open → f ≡ At i → 0 ≡ slot_at b f
+pub slot_open : {b : Bound} {f : Result ℕ ℕ} {i : ℕ} → b ≡ Open → f ≡ Ok i → 0 ≡ slot_at b f
 slot_open e g = rw (e, g)
 
 pub slot_told : (b : Bound) (x : Place) → Closed b → slot_at b (find_told x) ≡ slot_from b x
@@ -109,14 +107,14 @@ slot_within Open k m (gap i) l = omega arith
 -- the spot where it begins
 
 module _ {h : Header} {dir slots arena : List ℕ} {ns : List Node} {j : ℕ} (x : Presumed h dir slots arena ns) (s : Bytes) (o : j ≡ owner s ns) where
-  pub slot_fits : {leaf : Leaf} {f : Find} (b : Bound) → LeafIs h dir ns j leaf → f ≡ find_told (place s (leaf_at ns j).pairs) → slot_at b f < 2 ^ 64
+  pub slot_fits : {leaf : Leaf} {f : Result ℕ ℕ} (b : Bound) → LeafIs h dir ns j leaf → f ≡ find_told (place s (leaf_at ns j).pairs) → slot_at b f < 2 ^ 64
   slot_fits b l e =
       let m = (leaf_at ns j).pairs in
       let w = slot_within b s m (place s m) (lookup_by (pair [] []) s m) in
       let c = (leaf_lays x j (routed x s o).within).count_is in
       rw e (omega (arith, w, c, l.pairs_are, l.pairs_fit))
 
-  pub keyed_begins : (b : Bound) {f : Find} {i : ℕ} → Closed b → f ≡ find_told (place s (leaf_at ns j).pairs) → i ≡ slot_at b f → rest_of ns j i ≡ from_start b s (pairs_of ns)
+  pub keyed_begins : (b : Bound) {f : Result ℕ ℕ} {i : ℕ} → Closed b → f ≡ find_told (place s (leaf_at ns j).pairs) → i ≡ slot_at b f → rest_of ns j i ≡ from_start b s (pairs_of ns)
   keyed_begins b {f} {i} c e g =
       let p = place s (leaf_at ns j).pairs in
       let q : i ≡ slot_from b p = g ∙ ap (slot_at b) e ∙ slot_told b p c in
@@ -130,12 +128,12 @@ open_begins {ns = ns} s e x = rw e (sym (start_open s ns x.tiles))
 
 -- the pair at a spot, and the end
 
-module _ {h : Header} {dir slots arena : List ℕ} {t : Spot} {r : Pieced} (i : SpotIn h dir slots arena t) (d : SpotRead h dir slots arena t r) where
+module _ {h : Header} {dir slots arena : List ℕ} {ns : List Node} {t : Spot} {r : Pieced} (d : PairRead h dir slots arena ns t r) where
   pub prefix_in : r.low.0 + r.prefix ≤ length arena
-  prefix_in = (d i.index.nodes i.index.presumed).pieces.low_in
+  prefix_in = d.pieces.low_in
 
   pub parts_in : r.slot.offset.0 + r.slot.suffix + r.slot.value ≤ length arena
-  parts_in = (d i.index.nodes i.index.presumed).pieces.parts_in
+  parts_in = d.pieces.parts_in
 
 -- (the pieces as `&arena[low..low + prefix]` and `&arena[offset..offset + suffix]` give them)
 pub pieces_compared : {h : Header} {dir slots arena : List ℕ} {ns : List Node} {x : Pair} {low prefix offset suffix value : ℕ} {k : Bytes} {o : Ordering}

@@ -2,9 +2,10 @@
 -- the caller's output. On an index it lists exactly the pairs in the range, each once, in key order.
 -- Assumes nothing.
 use Prim.Native.Nat.{◌≤◌, suc, zero, ℕ}
-use Rattle.std.specs.Prelude.{List, [], ◌∷◌, ◌≡◌, length, take}
+use Rattle.std.specs.Prelude.{List, [], ◌∷◌, ◌≡◌, length, take, None, Some, Ok, Err}
 use Rattle.std.proofs.Math.Option.{Option, none, some}
-use Rattle.std.proofs.Common.{◌∙◌, ap, subst, arith, le-ltb, take_all}
+use Rattle.std.proofs.Common as rust
+use Rattle.std.proofs.Common.{Result, ◌∙◌, ap, subst, arith, le-ltb, take_all}
 use Rattle.std.proofs.Math.Path.{refl}
 use Rattle.layout.specs.Lays.{W}
 use Rattle.layout.specs.Places.{place_of}
@@ -12,7 +13,7 @@ use Rattle.layout.specs.Presumed.{w_presumed}
 use Rattle.layout.specs.declared.Header.{Header}
 use Rattle.lists.specs.Part.{part, put}
 use Rattle.lists.proofs.PartLaws.{part-put}
-use Rattle.model.specs.Answers.{Answer, accepted, range_answer}
+use Rattle.model.specs.Answers.{Answer, accepted, range_answer, told}
 use Rattle.model.specs.Good.{Within, limits}
 use Rattle.model.specs.Leaves.{Node, pairs_of}
 use Rattle.model.specs.Limits.{key_limit}
@@ -22,13 +23,11 @@ use Rattle.model.proofs.PairLaws.{pairs_within, rising_pairs}
 use Rattle.model.proofs.ScanLaws.{first_found, first_lookup}
 use Rattle.model.specs.Walk.{length-within, listed, onward, onward_not_inverted, walk, walk_take, within}
 use Rattle.model.specs.declared.Range.{Range}
+use Rattle.model.specs.declared.Refusal.{Refusal}
 use Rattle.order.specs.Bytes.{Bytes}
 use Rattle.route.specs.Lookups.{value_lies}
 use Rattle.tree_range.specs.Scans.{Allowed}
-use Rattle.tree_range.specs.Outcomes.{RangeOutcome, Scans, key_told, scan_told}
-use Rattle.tree_range.specs.declared.Scan.{Scan}
-use Rattle.tree_range.specs.declared.Scan.TheVariants.{End, Refused}
-use Rattle.tree_range.specs.declared.Scan.TheVariants as scan
+use Rattle.tree_range.specs.Outcomes.{RangeOutcome, Scans, key_told, seen}
 use Rattle.tree_range.specs.declared.Seen.{Seen}
 
 -- the pair that a call gives: its key in the output, its value in the arena
@@ -42,16 +41,16 @@ pub record GoesOn (arena now_out : Bytes) (next : Bytes → List Pair → Type 0
   pub later : next (take x.key now_out) rest
 
 -- else it ends
-abbrev pub Goes : (arena now_out : Bytes) (next : Bytes → List Pair → Type 0) → Scan → List Pair → Type 0
-Goes arena now_out next (scan.Pair x) ps = GoesOn arena now_out next x ps
-Goes arena now_out next End ps = ps ≡ []
-Goes arena now_out next (Refused y) ps = ps ≡ []
+abbrev pub Goes : (arena now_out : Bytes) (next : Bytes → List Pair → Type 0) → Result (rust.Option Seen) Refusal → List Pair → Type 0
+Goes arena now_out next (Ok (Some x)) ps = GoesOn arena now_out next x ps
+Goes arena now_out next (Ok None) ps = ps ≡ []
+Goes arena now_out next (Err y) ps = ps ≡ []
 
 -- one call, with an output that any key fits
 pub record Step (h : Header) (dir slots arena : List ℕ) (range : Range) (s e : Bytes) (next : Bytes → List Pair → Type 0) (ps : List Pair) : Type 0 where
   pub out : Bytes
   pub now_out : Bytes
-  pub answer : Scan
+  pub answer : Result (rust.Option Seen) Refusal
   pub room : key_limit ≤ length out
   pub called : RangeOutcome h dir slots arena range s e out now_out answer
   pub goes : Goes arena now_out next answer ps
@@ -72,10 +71,10 @@ module _ {h : Header} {dir slots arena : List ℕ} (w : W h dir slots arena) whe
   found_short range s e p f = (first_found range s e (Within (limits h.fanout)) (pairs_of ns) p (pairs_within (limits h.fanout) ns w.good.tiles.tiled) f).0.0
 
   -- with room for any key, the answer is the model's first pair
-  abbrev Answered : (range : Range) (s e : Bytes) (out now_out : Bytes) (answer : Scan) (o : Option Pair) → Type 0
-  Answered range s e out now_out answer o = (answer ≡ scan_told place (accepted o)) × (now_out ≡ put out 0 (key_told (accepted o)))
+  abbrev Answered : (range : Range) (s e : Bytes) (out now_out : Bytes) (answer : Result (rust.Option Seen) Refusal) (o : Option Pair) → Type 0
+  Answered range s e out now_out answer o = (answer ≡ told (seen place) (accepted o)) × (now_out ≡ put out 0 (key_told (accepted o)))
 
-  answered : (range : Range) (s e out now_out : Bytes) (answer : Scan) (o : Option Pair) → Allowed range s e → key_limit ≤ length out
+  answered : (range : Range) (s e out now_out : Bytes) (answer : Result (rust.Option Seen) Refusal) (o : Option Pair) → Allowed range s e → key_limit ≤ length out
       → RangeOutcome h dir slots arena range s e out now_out answer → first_in range s e (pairs_of ns) ≡ o → Answered range s e out now_out answer o
   answered range s e out now_out answer none t r c f =
       let a : range_answer range s e (length out) ns ≡ accepted none = rw (t.start_short, t.end_short, t.upright, f) in
@@ -106,10 +105,10 @@ module _ {h : Header} {dir slots arena : List ℕ} (w : W h dir slots arena) whe
       → (o : Option Pair) → first_in range s e (pairs_of ns) ≡ o → ps ≡ listed o (λ p. onto p.key)
   step_is range s e ps next onto t rec q none f =
       let a = answered range s e q.out q.now_out q.answer none t q.room q.called f in
-      subst (λ (r : Scan). Goes arena q.now_out next r ps) a.0 q.goes
+      subst (λ (r : Result (rust.Option Seen) Refusal). Goes arena q.now_out next r ps) a.0 q.goes
   step_is range s e ps next onto t rec q (some p) f =
       let a = answered range s e q.out q.now_out q.answer (some p) t q.room q.called f in
-      let g = subst (λ (r : Scan). Goes arena q.now_out next r ps) a.0 q.goes in
+      let g = subst (λ (r : Result (rust.Option Seen) Refusal). Goes arena q.now_out next r ps) a.0 q.goes in
       let y = seen_is range s e q.out q.now_out p q.room f a.1 in
       let k = ap (λ (x : Pair). x.key) y in
       let z = rec p.key g.rest (later_allowed range s e p t f) (subst (λ (b : Bytes). next b g.rest) k g.later) in

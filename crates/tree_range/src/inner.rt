@@ -1,75 +1,54 @@
-// What the calls do once W is tested. These presume W less its clause on empty leaves; they are no entry points.
-ghost use Rattle.layout.specs.Presumed.{Index};
+// What the calls do once W is tested: they read a view.
+// (A range and the keys beside its bounds stay three parameters, the form of document 01.)
+ghost use Rattle.std.specs.Prelude.{◌≡◌};
 ghost use Rattle.spots.specs.Spots.{SpotIn};
 ghost use Rattle.tree_range.specs.Outcomes.{FoundInner, RangeInner, RangeValueInner, ShowInner, ValueInner};
 
+use crate::Seen;
 use crate::bounds::{inverted, long_bound};
 use crate::start::{before_end, start_spot};
-use crate::{Scan, Seen};
-use layout::Header;
+use layout::lent::View;
 use model::{Range, Refusal};
 use pieces::write_pieces;
-use spots::{Next, Spot, next_spot, read_spot};
+use spots::{Spot, next_spot, read_spot};
 use words::Offset;
 
 // Where the first pair in the range lies.
-#[derive(Clone, Copy)]
-pub enum Hit {
-    At(Spot),
-    End,
-    Refused(Refusal),
-}
-
-pub fn found(
-    h: Header,
-    dir: &[u32],
-    slots: &[u64],
-    arena: &[u8],
-    range: Range,
-    start: &[u8],
-    end: &[u8],
-) -> Hit
-    requires { Index h dir.now slots.now arena.now }
-    ensures { FoundInner h dir.now slots.now arena.now range start.now end.now result }
+pub fn found(v: &View<'_>, range: Range, start: &[u8], end: &[u8]) -> Result<Option<Spot>, Refusal>
+    ensures { FoundInner v.now range start.now end.now result }
 {
-    let from = range.start;
-    let to = range.end;
-    if long_bound(from, start) {
-        return Hit::Refused(Refusal::LongKey);
-    }
-    if long_bound(to, end) {
-        return Hit::Refused(Refusal::LongKey);
+    if long_bound(range.start, start) || long_bound(range.end, end) {
+        return Err(Refusal::LongKey);
     }
     if inverted(range, start, end) {
-        return Hit::Refused(Refusal::InvertedRange);
+        return Err(Refusal::InvertedRange);
     }
-    let s = start_spot(h, dir, slots, arena, from, start);
-    let Next::At(t) = next_spot(h.leaves, dir, s) else {
-        return Hit::End;
+    let s = start_spot(v, range.start, start);
+    let Some(t) = next_spot(v.header.leaves, v.dir, s) else {
+        return Ok(None);
     };
-    if !before_end(h, dir, slots, arena, t, to, end) {
-        return Hit::End;
+    if !before_end(v, t, range.end, end) {
+        return Ok(None);
     }
-    Hit::At(t)
+    Ok(Some(t))
 }
 
 // A pair shown: its key written in two pieces, prefix then suffix, where the output has room for it.
-pub fn show(h: Header, dir: &[u32], slots: &[u64], arena: &[u8], t: Spot, out: &mut [u8]) -> Scan
-    requires { SpotIn h dir.now slots.now arena.now t }
-    ensures { ShowInner h dir.now slots.now arena.now t out.old out.new result }
+pub fn show(v: &View<'_>, t: Spot, out: &mut [u8]) -> Result<Seen, Refusal>
+    requires { SpotIn v.now.header v.now.dir.now t }
+    ensures { ShowInner v.now t out.old out.new result }
 {
-    let x = read_spot(h, dir, slots, arena, t);
-    let s = x.slot;
-    let length = x.prefix + s.suffix;
+    let pair = read_spot(v, t);
+    let s = pair.slot;
+    let length = pair.prefix + s.suffix;
     if out.len() < length {
-        return Scan::Refused(Refusal::ShortOutput(length));
+        return Err(Refusal::ShortOutput(length));
     }
-    let low = x.low.0;
-    let prefix_end = low + x.prefix;
+    let low = pair.low.0;
     let from = s.offset.0;
     let end = from + s.suffix;
-    write_pieces(&arena[low..prefix_end], &arena[from..end], out);
-    Scan::Pair(Seen {
+    write_pieces(&v.arena[low..low + pair.prefix], &v.arena[from..end], out);
+    Ok(Seen {
         key: length,
         place: Offset(end),
         value: s.value,
@@ -77,52 +56,45 @@ pub fn show(h: Header, dir: &[u32], slots: &[u64], arena: &[u8], t: Spot, out: &
 }
 
 pub fn first_in_range(
-    h: Header,
-    dir: &[u32],
-    slots: &[u64],
-    arena: &[u8],
+    v: &View<'_>,
     range: Range,
     start: &[u8],
     end: &[u8],
     out: &mut [u8],
-) -> Scan
-    requires { Index h dir.now slots.now arena.now }
-    ensures { RangeInner h dir.now slots.now arena.now range start.now end.now out.old out.new result }
+) -> Result<Option<Seen>, Refusal>
+    ensures { RangeInner v.now range start.now end.now out.old out.new result }
 {
-    match found(h, dir, slots, arena, range, start, end) {
-        Hit::Refused(x) => Scan::Refused(x),
-        Hit::End => Scan::End,
-        Hit::At(t) => show(h, dir, slots, arena, t, out),
-    }
+    let Some(t) = found(v, range, start, end)? else {
+        return Ok(None);
+    };
+    Ok(Some(show(v, t, out)?))
 }
 
-// The value of the pair at a spot.
-fn value_at<'a>(h: Header, dir: &[u32], slots: &[u64], arena: &'a [u8], t: Spot) -> &'a [u8]
-    requires { SpotIn h dir.now slots.now arena.now t }
-    ensures { ValueInner h dir.now slots.now arena.now t result.now }
+// The value of the pair at a spot, in the arena that the view reads. The arena is lent once more beside the view: what is handed back
+// lives as long as it, and as a part of the view only as long as the directory and the slots too.
+fn value_at<'a>(v: &View<'_>, arena: &'a [u8], t: Spot) -> &'a [u8]
+    requires there { SpotIn v.now.header v.now.dir.now t }
+    requires same_arena { arena.now ≡ v.now.arena.now }
+    ensures { ValueInner v.now t result.now }
 {
-    let x = read_spot(h, dir, slots, arena, t);
-    let s = x.slot;
+    let s = read_spot(v, t).slot;
     let from = s.offset.0 + s.suffix;
-    let end = from + s.value;
-    &arena[from..end]
+    &arena[from..from + s.value]
 }
 
 pub fn range_value<'a>(
-    h: Header,
-    dir: &[u32],
-    slots: &[u64],
+    v: &View<'_>,
     arena: &'a [u8],
     range: Range,
     start: &[u8],
     end: &[u8],
 ) -> &'a [u8]
-    requires { Index h dir.now slots.now arena.now }
-    ensures { RangeValueInner h dir.now slots.now arena.now range start.now end.now result.now }
+    requires { arena.now ≡ v.now.arena.now }
+    ensures { RangeValueInner v.now range start.now end.now result.now }
 {
-    match found(h, dir, slots, arena, range, start, end) {
-        Hit::At(t) => value_at(h, dir, slots, arena, t),
-        Hit::End => &arena[0..0],
-        Hit::Refused(_) => &arena[0..0],
+    match found(v, range, start, end) {
+        Ok(Some(t)) => value_at(v, arena, t),
+        Ok(None) => &arena[0..0],
+        Err(_) => &arena[0..0],
     }
 }

@@ -1,5 +1,6 @@
 -- The words of one leaf put together: the first, the rest and the last.
 -- Assumes nothing.
+use Rattle.std.proofs.Common.{Option}
 use Prim.Native.Nat.{◌+◌, ◌-◌, ◌<◌, ◌≤◌, suc, zero, ℕ}
 use mathlib.Core.List.{List, ◌∷◌}
 use mathlib.Core.Path.{◌∙◌, ◌≡◌, sym}
@@ -8,14 +9,11 @@ use native.Mathlib.Omega.{arith}
 use lib.ListN.{get_or, length}
 use Rattle.layout.specs.Buffers.{suffix_at}
 use Rattle.leaf.specs.Keys.{upper_part}
-use Rattle.leaf.specs.declared.Upper.{Upper}
 use Rattle.lists.specs.Part.{part}
 use Rattle.model.specs.Leaves.{Under}
 use Rattle.tree_read.proofs.Rest.{rest_cons}
 use Rattle.tree_read.specs.Check.{RunPairs, last_suffix, word_end}
-use Rattle.tree_read.specs.CheckCode.{RestRead, FirstOk, PairsAt, PairsOkAt, PairsSum, RestOk, RestSum, rest_of}
-use Rattle.tree_read.specs.declared.check.Pass.{Pass}
-use Rattle.tree_read.specs.declared.check.Pass.TheVariants.{Failed, Sound}
+use Rattle.tree_read.specs.CheckCode.{FirstOk, PairsAt, PairsOkAt, PairsSum, RestOk, RestSum, rest_of}
 use Rattle.tree_read.specs.declared.check.Sum.{Sum}
 use Rattle.words.specs.declared.LowKey.{LowKey}
 
@@ -35,11 +33,7 @@ last_inside slots arena prefix i (suc n) h w r =
     let t = rw (rest_cons slots (i + 1) n (suc n) (omega arith) (omega arith)) at r in
     rw e (last_inside slots arena prefix (i + 1) n (omega arith) t.0.0.inside t.1)
 
-module _ (slots arena : List ℕ) (first count prefix : ℕ) (low : LowKey) (upper : Upper) (p : PairsAt slots arena first count prefix low upper) where
-  pub pairs_none : (end : ℕ) → count ≡ 0 → end ≡ low.offset.0 + low.length
-      → PairsOkAt slots arena first count prefix low upper × PairsSum slots first count prefix low (record { end = end; charge = 0 })
-  pairs_none end z e = (rw z tt, record { end_is = rw z e; charge_is = rw z; charge_few = omega arith })
-
+module _ (slots arena : List ℕ) (first count prefix : ℕ) (low : LowKey) (upper : Option LowKey) (p : PairsAt slots arena first count prefix low upper) where
   module _ (h : 0 < count) where
     all_words : part slots first count ≡ get_or slots first 0 ∷ rest_of slots first count
     all_words = rest_cons slots first (count - 1) count (omega arith) (omega (arith, p.in_slots))
@@ -70,12 +64,3 @@ module _ (slots arena : List ℕ) (first count prefix : ℕ) (low : LowKey) (upp
       rw all_words (f, (o, rw last_is u)),
       record { end_is = m.end_is ∙ sym (rw all_words); charge_is = m.charge_is; charge_few = m.charge_few },
     )
-
--- the answer of `check_rest` in each arm
-
-module _ (slots arena : List ℕ) (first count prefix : ℕ) {r : Pass} where
-  pub rest_sound : {s : Sum} → r ≡ Sound s → RestRead slots arena first count prefix r → RestOk slots arena first count prefix × RestSum slots first count prefix s
-  rest_sound e q = rw e at q
-
-  pub rest_failed : r ≡ Failed → RestRead slots arena first count prefix r → RestOk slots arena first count prefix → ⊥
-  rest_failed e q = rw e at q

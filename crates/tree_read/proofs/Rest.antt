@@ -2,7 +2,7 @@
 -- Assumes nothing.
 use Prim.Native.Nat.{◌*◌, ◌+◌, ◌-◌, ◌<◌, ◌^◌, ◌≤◌, ℕ}
 use mathlib.Core.List.{List, ◌∷◌}
-use mathlib.Core.Path.{◌∙◌, sym, ◌≡◌}
+use mathlib.Core.Path.{◌∙◌, ◌≡◌}
 use native.Mathlib.Numerals.{add-one}
 use native.Mathlib.Omega.{arith}
 use lib.ListN.{get_or, length}
@@ -11,7 +11,7 @@ use Rattle.lists.specs.Part.{part}
 use Rattle.lists.proofs.PartLaws.{part-cons}
 use Rattle.model.specs.Charge.{charge}
 use Rattle.tree_read.specs.Check.{RunPairs, end_after, word_end, words_charge}
-use Rattle.tree_read.specs.CheckCode.{Follows, RestSum, RestOk, Rested, rest_of}
+use Rattle.tree_read.specs.CheckCode.{Follows, RestOk, Rested, rest_of}
 use Rattle.words.specs.Words.{word_suffix, word_value}
 
 -- at i the words before it are in place, and the words from i on say what all say
@@ -69,16 +69,3 @@ module _ (slots arena : List ℕ) (first count prefix : ℕ) (r : Rested slots a
           charge_same = v.charge_same ∙ rw (left_cons, e) (omega arith);
           charge_few = omega (arith, v.charge_few, v.past);
         }
-
-  pub rest_done : (i charge end : ℕ) → Rest slots arena first count prefix i charge → first + count ≤ i → end ≡ word_end (get_or slots (i - 1) 0)
-      → RestOk slots arena first count prefix × RestSum slots first count prefix (record { end = end; charge = charge })
-  rest_done i charge end v h e =
-      let z : first + count - i ≡ 0 = omega arith in
-      let c : i ≡ first + count = omega (arith, v.upto) in (
-        v.from (rw z tt),
-        record {
-          end_is = e ∙ sym (v.end_same ∙ rw z);
-          charge_is = sym (v.charge_same ∙ rw z (omega arith));
-          charge_few = omega (arith, v.charge_few);
-        },
-      )

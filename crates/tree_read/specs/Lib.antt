@@ -5,3 +5,4 @@ pub mod LeafCheck
 pub mod RunCheck
 pub mod WCheck
 pub mod Decided
+pub mod Opened

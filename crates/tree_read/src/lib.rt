@@ -1,5 +1,6 @@
-// The calls that read an index, and the test of W that every call begins with.
+// The test of W that every call begins with, and the view of an index that it opens.
 #![tactic(auto)]
 
 pub mod check;
+pub mod open;
 pub mod sizes;

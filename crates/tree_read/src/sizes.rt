@@ -14,10 +14,7 @@ const ARENA_LIMIT: usize = 1048576;
 fn pool_met(pool: usize) -> bool
     ensures { Exact result ((pool_least ≤ pool) × (pool ≤ pool_limit)) }
 {
-    if pool < POOL_LEAST {
-        return false;
-    }
-    pool <= POOL_LIMIT
+    (POOL_LEAST..=POOL_LIMIT).contains(&pool)
 }
 
 fn arena_met(arena: usize) -> bool
@@ -30,14 +27,5 @@ fn arena_met(arena: usize) -> bool
 pub fn sizes_met(fanout: usize, pool: usize, slots: usize, arena: usize) -> bool
     ensures { Exact result (Sizes fanout pool slots arena) }
 {
-    if !Leaf::fanout_met(fanout) {
-        return false;
-    }
-    if !pool_met(pool) {
-        return false;
-    }
-    if slots != fanout * pool {
-        return false;
-    }
-    arena_met(arena)
+    Leaf::fanout_met(fanout) && pool_met(pool) && slots == fanout * pool && arena_met(arena)
 }

@@ -5,13 +5,14 @@ ghost use Rattle.order.specs.Bytes.{Bytes};
 ghost use Rattle.pair_edit.specs.PairEdits.{CanRemove};
 ghost use Rattle.tree_remove.specs.Outcomes.{FoundAsked, RemoveInner, TakesOut};
 
-use changes::{Changed, Old, write_old};
+use changes::{Changed, write_old};
 use layout::Header;
+use layout::lent::View;
 use leaf::Leaf;
 use merge::merge_leaf;
 use model::Refusal;
 use pair_edit::remove_pair;
-use spots::{Sought, Spot, read_spot, seek};
+use spots::{Spot, read_spot, seek};
 use words::pair_count;
 
 // L7: a leaf that loses its last pair and has an upper key takes its right neighbour's pairs; one without an upper key may stay empty.
@@ -41,19 +42,19 @@ fn remove_found(
     requires { FoundAsked h dir.old slots.old arena.old key.now t }
     ensures { RemoveInner h key.now (lent dir.old slots.old arena.old out.old) result (lent dir.new slots.new arena.new out.new) }
 {
-    let x = read_spot(h, dir, slots, arena, t);
-    let s = x.slot;
-    if out.len() < s.value {
+    let view = View::new(h, dir, slots, arena);
+    let x = read_spot(&view, t);
+    if out.len() < x.slot.value {
         return Changed {
             header: h,
-            old: Old::Refused(Refusal::ShortOutput(s.value)),
+            old: Err(Refusal::ShortOutput(x.slot.value)),
         };
     }
-    let old = write_old(h, dir, slots, arena, t, out);
-    let r = take_pair(h, dir, slots, arena, t);
+    let old = write_old(&view, t, out);
+    let header = take_pair(h, dir, slots, arena, t);
     Changed {
-        header: r,
-        old: Old::Value(old),
+        header,
+        old: Ok(Some(old)),
     }
 }
 
@@ -71,14 +72,15 @@ pub fn remove(
     if Leaf::long_key(key.len()) {
         return Changed {
             header: h,
-            old: Old::Refused(Refusal::LongKey),
+            old: Err(Refusal::LongKey),
         };
     }
-    match seek(h, dir, slots, arena, key) {
-        Sought::At(t) => remove_found(h, dir, slots, arena, key, t, out),
-        Sought::Gap(_) => Changed {
+    let view = View::new(h, dir, slots, arena);
+    match seek(&view, key) {
+        Ok(t) => remove_found(h, dir, slots, arena, key, t, out),
+        Err(_) => Changed {
             header: h,
-            old: Old::Nothing,
+            old: Ok(None),
         },
     }
 }

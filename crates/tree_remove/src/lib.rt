@@ -1,4 +1,5 @@
 // `remove`: a key's pair taken out, its value written to the lent output. A leaf left empty is merged with its right neighbour (L7).
+// (Header, directory, slots and arena stay apart in the parameters: document 01 lends them so, to callers in C and Rust too.)
 #![tactic(auto)]
 
 ghost use Rattle.changes.specs.Outcomes.{lent};
@@ -6,7 +7,7 @@ ghost use Rattle.tree_remove.specs.Outcomes.{RemoveOutcome};
 
 pub mod inner;
 
-use changes::{Changed, Old};
+use changes::Changed;
 use layout::Header;
 use model::Refusal;
 use tree_read::check::holds_index;
@@ -24,7 +25,7 @@ pub fn remove(
     if !holds_index(h, dir, slots, arena) {
         return Changed {
             header: h,
-            old: Old::Refused(Refusal::Damaged),
+            old: Err(Refusal::Damaged),
         };
     }
     inner::remove(h, dir, slots, arena, key, out)

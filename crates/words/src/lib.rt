@@ -6,26 +6,26 @@ ghost use Rattle.lists.specs.Exact.{Exact};
 ghost use Rattle.words.specs.Words.{SlotFits, Unpacked, slot_word, LowKeyFits, LowKeyUnpacked, low_key_word, word_value, word_leaf, word_count, directory_word, first_slot, low_key_slot};
 
 // A leaf's number in the pool.
-#[derive(Clone, Copy)]
+#[derive(Debug, Clone, Copy, PartialEq, Eq, PartialOrd, Ord)]
 pub struct LeafNo(pub usize);
 
 // A word's place in the slot buffer.
-#[derive(Clone, Copy)]
+#[derive(Debug, Clone, Copy, PartialEq, Eq, PartialOrd, Ord)]
 pub struct SlotNo(pub usize);
 
 // A byte's place in the arena.
-#[derive(Clone, Copy)]
+#[derive(Debug, Clone, Copy, PartialEq, Eq, PartialOrd, Ord)]
 pub struct Offset(pub usize);
 
 // A pair: where its suffix starts, the value right behind, and the length of each.
-#[derive(Clone, Copy)]
+#[derive(Debug, Clone, Copy, PartialEq, Eq)]
 pub struct Slot {
     pub offset: Offset,
     pub suffix: usize,
     pub value: usize,
 }
 
-#[derive(Clone, Copy)]
+#[derive(Debug, Clone, Copy, PartialEq, Eq)]
 pub struct LowKey {
     pub offset: Offset,
     pub length: usize,
@@ -39,6 +39,7 @@ const SUFFIX_SPAN: u64 = 0x1000;
 
 const LEAF_UNIT: u32 = 0x10_0000;
 
+// Packing asks that the numbers fit, and a `From` can ask nothing: so it is a function.
 pub fn pack_slot(s: Slot) -> u64
     requires { SlotFits s }
     ensures { result ≡ slot_word s.offset.0 s.suffix s.value }
@@ -46,13 +47,15 @@ pub fn pack_slot(s: Slot) -> u64
     s.offset.0 as u64 * OFFSET_UNIT + s.suffix as u64 * SUFFIX_UNIT + s.value as u64
 }
 
-pub fn unpack_slot(w: u64) -> Slot
-    ensures { Unpacked w result }
-{
-    Slot {
-        offset: Offset((w / OFFSET_UNIT) as usize),
-        suffix: (w / SUFFIX_UNIT % SUFFIX_SPAN) as usize,
-        value: (w % SUFFIX_UNIT) as usize,
+impl From<u64> for Slot {
+    ghost from_gives = { λ w s. Unpacked w s };
+
+    fn from(w: u64) -> Slot {
+        Slot {
+            offset: Offset((w / OFFSET_UNIT) as usize),
+            suffix: (w / SUFFIX_UNIT % SUFFIX_SPAN) as usize,
+            value: (w % SUFFIX_UNIT) as usize,
+        }
     }
 }
 
@@ -63,12 +66,14 @@ pub fn pack_low_key(k: LowKey) -> u64
     k.offset.0 as u64 * OFFSET_UNIT + k.length as u64 * SUFFIX_UNIT
 }
 
-pub fn unpack_low_key(w: u64) -> LowKey
-    ensures { LowKeyUnpacked w result }
-{
-    LowKey {
-        offset: Offset((w / OFFSET_UNIT) as usize),
-        length: (w / SUFFIX_UNIT % SUFFIX_SPAN) as usize,
+impl From<u64> for LowKey {
+    ghost from_gives = { λ w k. LowKeyUnpacked w k };
+
+    fn from(w: u64) -> LowKey {
+        LowKey {
+            offset: Offset((w / OFFSET_UNIT) as usize),
+            length: (w / SUFFIX_UNIT % SUFFIX_SPAN) as usize,
+        }
     }
 }
 

@@ -7,13 +7,13 @@ use native.Mathlib.Omega.{arith}
 use Rattle.answers.proofs.write_bytes.Goals as goal
 
 pub write_byte-requires : goal.write_byte-requires
-write_byte-requires c = omega (arith, ap length (dash_text c.args.s.now c.if-s-eq0.true), c.requires)
+write_byte-requires c = omega (arith, ap length (dash_text c.args.s.now (omega arith)), c.requires)
 
-pub returns-then-s-eq0 : goal.returns-then-s-eq0
-returns-then-s-eq0 c = wrote_is c.write_byte.ensures (sym (dash_text _ c.if-s-eq0.true))
+pub returns-in-empty : goal.returns-in-empty
+returns-in-empty c = wrote_is c.write_byte.ensures (sym (dash_text _ (omega arith)))
 
 pub write_hex-requires : goal.write_hex-requires
-write_hex-requires c = omega (arith, ap length (hex_text c.args.s.now c.if-s-eq0.false), c.requires)
+write_hex-requires c = omega (arith, ap length (hex_text c.args.s.now (omega arith)), c.requires)
 
-pub returns : goal.returns
-returns c = wrote_is c.write_hex.ensures (hex_text _ c.if-s-eq0.false)
+pub returns-in_default : goal.returns-in_default
+returns-in_default c = wrote_is c.write_hex.ensures (hex_text _ (omega arith))

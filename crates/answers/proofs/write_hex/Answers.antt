@@ -10,10 +10,7 @@ use native.Mathlib.Omega.{arith}
 use Rattle.answers.proofs.write_hex.Goals as goal
 
 pub loop-i-init : goal.loop-i-init
-loop-i-init c = (search rules, search rules, fill_start _ _ _ _ (omega arith))
-
-pub hex_digit-high-requires : goal.hex_digit-high-requires
-hex_digit-high-requires c = omega (arith, c.shared_slice_known-in-loop-i-1.given c.loop-i.i)
+loop-i-init c = (search rules, fill_start _ _ _ _ (omega arith))
 
 pub overflow_mul-j : goal.overflow_mul-j
 overflow_mul-j c = omega (arith, hex_length c.args.s.now, c.requires)
@@ -31,7 +28,7 @@ pub bounds-out-j-in-loop-i : goal.bounds-out-j-in-loop-i
 bounds-out-j-in-loop-i c = simp length-set (omega (arith, hex_length c.args.s.now, c.requires))
 
 pub loop-i-preserved : goal.loop-i-preserved
-loop-i-preserved c = (search rules, simp length-set c.loop-i.invariant.1, hex_turn _ _ _ _ c.loop-i.i _ _ _ _ _ _ c.requires (omega arith) refl refl refl refl c.hex_digit-high.ensures c.hex_digit-low.ensures c.loop-i.invariant.2)
+loop-i-preserved c = (simp length-set c.loop-i.invariant.0, hex_turn _ _ _ _ c.loop-i.i _ _ _ _ _ _ c.requires (omega arith) refl refl refl refl c.hex_digit.ensures c.hex_digit-in-loop-i.ensures c.loop-i.invariant.1)
 
 pub overflow_mul-result : goal.overflow_mul-result
 overflow_mul-result c = omega (arith, hex_length c.args.s.now, c.requires)
@@ -40,4 +37,4 @@ pub overflow_add-result : goal.overflow_add-result
 overflow_add-result c = omega (arith, hex_length c.args.s.now, c.requires)
 
 pub returns : goal.returns
-returns c = hex_done _ _ _ _ c.loop-i.i _ _ (omega arith) refl refl c.loop-i.invariant.2
+returns c = hex_done _ _ _ _ c.loop-i.i _ _ (omega arith) refl (omega arith) c.loop-i.invariant.1

@@ -4,4 +4,4 @@ use Rattle.bulk.specs.JobLaws.{asked_most}
 use Rattle.bulk.proofs.answer.Goals as goal
 
 pub run-requires : goal.run-requires
-run-requires g c = asked_most _ c.in-Asked.is c.parse.ensures
+run-requires g c = asked_most _ c.in-Some.is c.parse.ensures

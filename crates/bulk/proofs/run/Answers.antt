@@ -12,17 +12,17 @@ use Rattle.bulk.proofs.run.Goals as goal
 pub returns-then-not-holds_index : goal.returns-then-not-holds_index
 returns-then-not-holds_index g c = record { made = c.create-r.result; fresh = store _ _ _; created = c.create-r.ensures; same_arena = refl; tested = entry_damaged (refuted c.if-not-holds_index.true c.holds_index.ensures) refl }
 
-pub insert_all-full-requires : goal.insert_all-full-requires
-insert_all-full-requires g c = (w_index (c.holds_index.ensures.sound c.if-not-holds_index.false), calls_most c.args.j.inserts c.call_count.ensures c.requires)
+pub call_all-full-requires : goal.call_all-full-requires
+call_all-full-requires g c = (w_index (c.holds_index.ensures.sound c.if-not-holds_index.false), calls_most c.args.j.inserts c.call_count-inserts.ensures c.requires)
 
-pub remove_all-left-requires : goal.remove_all-left-requires
-remove_all-left-requires g c = (inserts_stand c.args.j.inserts c.call_count.result (w_index (c.holds_index.ensures.sound c.if-not-holds_index.false)) c.insert_all-full.ensures, calls_most c.args.j.deletes c.call_count-2.ensures c.requires)
+pub call_all-left-requires : goal.call_all-left-requires
+call_all-left-requires g c = (inserts_stand c.args.j.inserts c.call_count-inserts.result (w_index (c.holds_index.ensures.sound c.if-not-holds_index.false)) c.call_all-full.ensures, calls_most c.args.j.deletes c.call_count-deletes.ensures c.requires)
 
 pub shape_of-dir : goal.shape_of-dir
-shape_of-dir g c = c.remove_all-left.auto.dir ∙ c.insert_all-full.auto.dir ∙ c.create-r.auto.dir
+shape_of-dir g c = c.call_all-left.auto.dir ∙ c.call_all-full.auto.dir ∙ c.create-r.auto.dir
 
 pub shape_of-slots : goal.shape_of-slots
-shape_of-slots g c = c.remove_all-left.auto.slots ∙ c.insert_all-full.auto.slots ∙ c.create-r.auto.slots
+shape_of-slots g c = c.call_all-left.auto.slots ∙ c.call_all-full.auto.slots ∙ c.create-r.auto.slots
 
 pub returns : goal.returns
-returns g c = record { made = c.create-r.result; fresh = store c.create-r.new.dir c.create-r.new.slots _; created = c.create-r.ensures; same_arena = refl; tested = entry_held (c.holds_index.ensures.sound c.if-not-holds_index.false) (λ ns p. rows c.call_count.ensures c.insert_all-full.ensures c.call_count-2.ensures c.remove_all-left.ensures) }
+returns g c = record { made = c.create-r.result; fresh = store c.create-r.new.dir c.create-r.new.slots _; created = c.create-r.ensures; same_arena = refl; tested = entry_held (c.holds_index.ensures.sound c.if-not-holds_index.false) (λ ns p. rows c.call_count-inserts.ensures c.call_all-full.ensures c.call_count-deletes.ensures c.call_all-left.ensures) }

@@ -1,10 +1,10 @@
 -- `gather` meets its contract.
 -- Assumes nothing.
-use Rattle.feed.specs.FeedLaws.{gathers_last, gathers_line}
+use Rattle.feed.specs.FeedLaws.{gathers_none, gathers_found}
 use Rattle.feed.proofs.gather.Goals as goal
 
-pub returns-then-e-piece : goal.returns-then-e-piece
-returns-then-e-piece c = gathers_last c.line_end-e.ensures c.hold-now.ensures c.if-e-piece.true
+pub returns-in-Some : goal.returns-in-Some
+returns-in-Some c = gathers_found c.requires.0 c.in-Some.ensures c.hold.ensures
 
-pub returns : goal.returns
-returns c = gathers_line c.line_end-e.ensures c.hold-now.ensures c.if-e-piece.false
+pub returns-in-None : goal.returns-in-None
+returns-in-None c = gathers_none c.requires.0 c.in-None.ensures c.hold-in-None.ensures

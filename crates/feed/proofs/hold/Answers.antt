@@ -2,12 +2,13 @@
 -- Assumes nothing.
 use Prim.Native.Nat.{◌-◌}
 use lib.ListN.{length}
-use Rattle.feed.specs.FeedLaws.{holds_all, holds_some}
+use mathlib.Core.Path.{refl}
+use Rattle.feed.specs.FeedLaws.{Least, holds_copied}
 use native.Mathlib.Omega.{arith}
 use Rattle.feed.proofs.hold.Goals as goal
 
-pub returns-then-text-room : goal.returns-then-text-room
-returns-then-text-room c = holds_all (omega arith) c.copy_bytes.ensures
-
 pub returns : goal.returns
-returns c = holds_some {m = length c.args.line.now - c.args.held - 0} c.copy_bytes-2.ensures c.requires (omega arith) (omega arith) (omega arith)
+returns c =
+    let m : Least c.min.result (length c.args.text.now) (length c.args.line.now - c.args.held) =
+    record { first = omega (arith, c.min.ensures); second = omega (arith, c.min.ensures); lower = λ l. omega (arith, c.min.ensures); upper = λ l. omega (arith, c.min.ensures) } in
+    holds_copied c.copy_from_slice.ensures.after (omega arith) (omega arith) c.requires refl m

@@ -1,20 +1,14 @@
 -- `common_with` meets its contract.
 -- Assumes nothing.
-use Rattle.judge.specs.PlanReads.{reach, with_common, with_fits, with_long}
+use Rattle.judge.specs.PlanReads.{with_common, with_fits, with_long}
 use native.Mathlib.Omega.{arith}
 use Rattle.judge.proofs.common_with.Goals as goal
-
-pub overflow_add-end : goal.overflow_add-end
-overflow_add-end c = omega (arith, reach c.requires.spot.index c.read_spot-x.ensures)
 
 pub slice_bounds-common-count : goal.slice_bounds-common-count
 slice_bounds-common-count c = omega (arith, with_long c.requires c.read_spot-x.ensures)
 
 pub slice_bounds-common-start : goal.slice_bounds-common-start
 slice_bounds-common-start c = omega (arith, with_long c.requires c.read_spot-x.ensures)
-
-pub slice_bounds-common-end-2 : goal.slice_bounds-common-end-2
-slice_bounds-common-end-2 c = omega (arith, reach c.requires.spot.index c.read_spot-x.ensures)
 
 pub overflow_add-result : goal.overflow_add-result
 overflow_add-result c = omega (arith, with_fits c.requires c.read_spot-x.ensures c.common.ensures)

@@ -1,11 +1,11 @@
 -- `plan_split` meets its contract.
 -- Assumes nothing.
-use Rattle.judge.specs.PlanLaws.{common_asked, offset_asked, plan_left, plan_right, separator_fits}
+use Rattle.judge.specs.PlanLaws.{common_asked, gap_in, plan_left, plan_right, separator_fits}
 use native.Mathlib.Omega.{arith}
 use Rattle.judge.proofs.plan_split.Goals as goal
 
 pub offset_of-s-requires : goal.offset_of-s-requires
-offset_of-s-requires c = offset_asked c.requires
+offset_of-s-requires c = gap_in c.requires
 
 pub common_at-separator-requires : goal.common_at-separator-requires
 common_at-separator-requires c = common_asked c.requires c.offset_of-s.ensures

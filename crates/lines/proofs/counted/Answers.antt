@@ -1,28 +1,21 @@
 -- `counted` meets its contract.
 -- Assumes nothing.
-use Rattle.lines.specs.NumberLaws.{count_start, count_turn, count_done, count_fits, none_byte, ten_small}
+use Rattle.lines.specs.NumberLaws.{count_start, count_turn, count_done, none_byte}
 use mathlib.Core.Path.{refl}
-use borrow.Author.Rules.{rules}
 use native.Mathlib.Omega.{arith}
 use Rattle.lines.proofs.counted.Goals as goal
 
-pub returns-then-v-eq10 : goal.returns-then-v-eq10
-returns-then-v-eq10 c = none_byte _ 0 _ (omega arith) c.ten_value-v.ensures c.if-v-eq10.true
+pub returns-in_err-v : goal.returns-in_err-v
+returns-in_err-v c = rw c.from_residual.ensures (none_byte _ 0 (omega arith) c.in_err-v.ensures)
 
 pub loop-i-init : goal.loop-i-init
-loop-i-init c = (search rules, search rules, count_start _ _ (omega arith) c.requires.2 c.ten_value-v.ensures (ten_small c.ten_value-v.ensures c.if-v-eq10.false))
-
-pub returns-then-d-eq10 : goal.returns-then-d-eq10
-returns-then-d-eq10 c = none_byte _ _ _ (omega arith) c.ten_value-d.ensures c.if-d-eq10.true
-
-pub overflow_mul-v : goal.overflow_mul-v
-overflow_mul-v c = omega (arith, count_fits _ _ (omega arith) c.loop-i.invariant.2.small)
-
-pub overflow_add-v : goal.overflow_add-v
-overflow_add-v c = omega (arith, count_fits _ _ (omega arith) c.loop-i.invariant.2.small, c.ten_value-d.ensures.small)
+loop-i-init c = count_start _ _ (omega arith) c.requires.2 c.in_ok-v.ensures
 
 pub loop-i-preserved : goal.loop-i-preserved
-loop-i-preserved c = (search rules, search rules, count_turn _ _ _ _ _ (omega arith) c.requires.1 refl c.ten_value-d.ensures (ten_small c.ten_value-d.ensures c.if-d-eq10.false) c.loop-i.invariant.2)
+loop-i-preserved c = count_turn _ _ _ _ _ (omega arith) c.requires.1 refl c.in_ok-v-2.ensures c.loop-i.invariant
 
 pub returns : goal.returns
-returns c = count_done _ _ _ (omega arith) (omega arith) c.loop-i.invariant.2
+returns c = count_done _ _ _ (omega arith) (omega arith) c.loop-i.invariant
+
+pub returns-in_err-v-2 : goal.returns-in_err-v-2
+returns-in_err-v-2 c = rw c.from_residual-in_err-v-2.ensures (none_byte _ _ (omega arith) c.in_err-v-2.ensures)

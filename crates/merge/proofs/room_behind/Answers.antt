@@ -4,9 +4,6 @@ use Rattle.merge.specs.BehindLaws.{behind_can, behind_made, behind_none}
 use native.Mathlib.Omega.{arith}
 use Rattle.merge.proofs.room_behind.Goals as goal
 
-pub overflow_mul-pairs : goal.overflow_mul-pairs
-overflow_mul-pairs c = omega (arith, c.requires.free)
-
 pub make_room-requires : goal.make_room-requires
 make_room-requires c = behind_can c.requires
 

@@ -1,26 +1,28 @@
-use Prim.Native.Nat.{ℕ, ◌+◌}
+use Rattle.std.specs.Prelude.{◌≡◌, ℕ, ◌+◌, ◌-◌}
+use Rattle.std.proofs.Common.{arith}
 use Rattle.lists.proofs.FillLaws.{fill_start}
-use Rattle.lists.proofs.Shift.{each_read, each_turn, each_done}
-use borrow.Author.Rules.{rules}
-use native.Mathlib.Omega.{arith}
+use Rattle.lists.proofs.Shift.{each_read, each_done}
+use Rattle.moves.proofs.Steps.{raised}
 use Rattle.moves.proofs.raise.Goals as goal
 
 pub loop-i-init : goal.loop-i-init
-loop-i-init c = (search rules, fill_start _ _ _ _ (omega arith))
+loop-i-init c = fill_start _ _ _ _ (omega arith)
 
-pub overflow_add-a-in-loop-i : goal.overflow_add-a-in-loop-i
-overflow_add-a-in-loop-i c =
+pub overflow_add-a : goal.overflow_add-a
+overflow_add-a c =
     let a = c.args in
+    let i = c.loop-i.i in
+    let at : a.from + (i - a.from) ≡ i = omega arith in
     omega (
       arith,
-      c.requires.1 (a.from + c.loop-i.i) (omega arith) (omega arith),
-      each_read _ _ a.n (λ (x : ℕ). x + a.k) (omega arith) _ _ 0 (omega arith) c.loop-i.invariant.1,
+      c.requires.1 i (omega arith) (omega arith),
+      rw at at (each_read a.a.now a.from a.n (λ (x : ℕ). x + a.k) (omega arith) (i - a.from) _ 0 (omega arith) c.loop-i.invariant),
     )
 
 pub loop-i-preserved : goal.loop-i-preserved
 loop-i-preserved c =
-    let g = c.args in
-    (search rules, each_turn _ _ g.n _ (omega arith) _ _ _ 0 (omega arith) (omega arith) c.loop-i.invariant.1)
+    let a = c.args in
+    raised _ a.from a.n _ _ (λ (x : ℕ). x + a.k) _ 0 (omega arith) (omega arith) (omega arith) (omega arith) c.loop-i.invariant
 
 pub returns : goal.returns
-returns c = each_done _ _ c.args.n _ (omega arith) _ _ (omega arith) c.loop-i.invariant.1
+returns c = each_done _ _ c.args.n _ (omega arith) _ _ (omega arith) c.loop-i.invariant

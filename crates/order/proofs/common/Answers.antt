@@ -1,18 +1,24 @@
-use Rattle.order.proofs.Steps.{agree_start, agree_more, agree_apart, agree_left, agree_right}
-use native.Mathlib.Omega.{arith}
+-- `order::common` meets its contract.
+-- Assumes nothing.
+use Rattle.std.proofs.Common.{◌≡◌, ◌∙◌, rules, tests}
+use Rattle.std.proofs.lemmas.Iterator.{YieldsList-from_slice, YieldsList-from_zip}
+use Rattle.std.proofs.lemmas.Iterator.Consumers.{YieldsList-at, count_from_yields_List}
+use Rattle.std.proofs.lemmas.Iterator.Search.{YieldsList-from_take_while}
+use Rattle.std.proofs.lemmas.List.Folds.{length-prefix_len}
+use Rattle.std.specs.List.{zip}
+use Rattle.order.proofs.Steps.{same, is_common}
 use Rattle.order.proofs.common.Goals as goal
 
-pub loop-i-init : goal.loop-i-init
-loop-i-init c = agree_start _ _
-
-pub returns-then-i-b : goal.returns-then-i-b
-returns-then-i-b c = agree_right c.loop-i.invariant (omega arith)
-
-pub returns-then-a-i : goal.returns-then-a-i
-returns-then-a-i c = agree_apart c.loop-i.invariant (omega arith) (omega arith) (λ e. omega arith)
-
-pub loop-i-preserved : goal.loop-i-preserved
-loop-i-preserved c = agree_more c.loop-i.invariant (omega arith) (omega arith) (omega arith)
-
 pub returns : goal.returns
-returns c = agree_left c.loop-i.invariant (omega arith)
+returns c =
+    let a = c.args.a.now in
+    let b = c.args.b.now in
+    let second : c.zip.result.b.rest.now ≡ b = c.zip.ensures.second.0 in
+    count_from_yields_List c.take_while.result _ c.count.ensures.ran
+    (YieldsList-from_take_while _ same
+    (YieldsList-at c.take_while.ensures.source
+    (YieldsList-from_zip
+    (YieldsList-at c.zip.ensures.first (YieldsList-from_slice a c.iter.ensures.rest))
+    (YieldsList-from_slice b second)))
+    c.take_while.ensures.closure c.take_while.ensures.done (λ x b q k. search (rules, tests)))
+    ∙ length-prefix_len same (zip a b) ∙ is_common a b

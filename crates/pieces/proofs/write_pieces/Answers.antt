@@ -5,4 +5,4 @@ use Rattle.pieces.specs.PieceLaws.{pieces_put}
 use Rattle.pieces.proofs.write_pieces.Goals as goal
 
 pub returns : goal.returns
-returns c = pieces_put _ _ _ _ _ _ c.requires c.copy_bytes.ensures c.copy_bytes-2.ensures refl
+returns c = pieces_put _ _ _ _ _ _ c.requires c.copy_into.ensures c.copy_into-2.ensures refl

@@ -3,11 +3,11 @@
 use Rattle.regrow.proofs.Steps.{from_room, part_room, regained}
 use Rattle.regrow.proofs.regain.Goals as goal
 
-pub move_bytes-requires : goal.move_bytes-requires
-move_bytes-requires c = part_room c.requires c.unpack_slot-old.ensures
+pub move_within-requires : goal.move_within-requires
+move_within-requires c = part_room c.requires c.from-old.ensures
 
-pub move_bytes-requires-2 : goal.move_bytes-requires-2
-move_bytes-requires-2 c = from_room c.requires c.unpack_slot-old.ensures c.move_bytes.auto.a
+pub move_within-requires-2 : goal.move_within-requires-2
+move_within-requires-2 c = from_room c.requires c.from-old.ensures c.move_within.auto.a
 
 pub returns : goal.returns
-returns c = regained c.requires c.unpack_slot-old.ensures c.move_bytes.ensures c.move_bytes-2.ensures c.pack_slot.ensures
+returns c = regained c.requires c.from-old.ensures c.move_within.ensures c.move_within-2.ensures c.pack_slot.ensures

@@ -1,4 +1,3 @@
-use Prim.Native.Nat.{◌-◌, ◌≤◌}
 use mathlib.Core.Path.{◌≡◌}
 use lib.ListN.{length}
 use Rattle.replies.specs.Leaves.{lines_upto}
@@ -6,7 +5,4 @@ use Rattle.replies.specs.Replies.{ReadReply}
 use Rattle.replies.proofs.reply_leaves.Given as goal
 
 abbrev pub invariant-loop-place : goal.invariant-loop-place
-invariant-loop-place l = (l.place ≤ l.h.leaves) × (length l.out ≡ length l.initial.out) × ReadReply l.h l.dir l.slots l.arena (lines_upto l.place) l.initial.out l.at l.out l.e
-
-abbrev pub decreases-loop-place : goal.decreases-loop-place
-decreases-loop-place l = l.h.leaves - l.place
+invariant-loop-place l = (length l.out ≡ length l.initial.out) × ReadReply l.h l.dir l.slots l.arena (lines_upto l.place) l.initial.out l.at l.out l.e

@@ -1,12 +1,8 @@
 -- `make_room` meets its contract: the room is found, or the parts are packed around its place.
 -- Assumes nothing.
-use Rattle.room.specs.GapLaws.{end_inside, place_read, place_sized, room_found}
+use Rattle.room.specs.GapLaws.{place_read, place_sized, room_found}
 use Rattle.room.specs.RoomLaws.{place_asked}
-use native.Mathlib.Omega.{arith}
 use Rattle.room.proofs.make_room.Goals as goal
-
-pub offset_bounds-dir-j : goal.offset_bounds-dir-j
-offset_bounds-dir-j c = omega (arith, place_read (place_asked c.requires))
 
 pub bounds-dir-j : goal.bounds-dir-j
 bounds-dir-j c = place_read (place_asked c.requires)
@@ -16,9 +12,6 @@ part_end-end-requires c = place_sized (place_asked c.requires)
 
 pub next_start-next-requires : goal.next_start-next-requires
 next_start-next-requires c = place_asked c.requires
-
-pub overflow_add-end : goal.overflow_add-end
-overflow_add-end c = omega (arith, end_inside (place_asked c.requires) c.part_end-end.ensures, c.requires.arena_fits, c.requires.free)
 
 pub returns-then-end-need : goal.returns-then-end-need
 returns-then-end-need c = room_found (place_asked c.requires) c.part_end-end.ensures c.next_start-next.ensures c.if-end-need.true

@@ -3,11 +3,7 @@
 use Rattle.room.proofs.RoomSteps.{all_packed, first_asked, fourth_asked, second_asked, third_asked}
 use Rattle.room.specs.GapLaws.{place_read}
 use mathlib.Core.Path.{◌∙◌}
-use native.Mathlib.Omega.{arith}
 use Rattle.room.proofs.pack_around.Goals as goal
-
-pub offset_bounds-dir-j : goal.offset_bounds-dir-j
-offset_bounds-dir-j c = omega (arith, place_read c.requires)
 
 pub bounds-dir-j : goal.bounds-dir-j
 bounds-dir-j c = place_read c.requires

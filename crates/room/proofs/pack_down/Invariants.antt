@@ -1,11 +1,7 @@
+-- `pack_down` meets its contract. The invariant: the parts of the leaves before the next one lie tight, the words of the others are as they were.
+-- Assumes nothing.
 use Rattle.room.specs.Pack.{PackDown}
-use lib.ListN.{length}
-use mathlib.Core.Path.{◌≡◌}
-use Prim.Native.Nat.{◌≤◌, ◌-◌}
 use Rattle.room.proofs.pack_down.Given as goal
 
-abbrev pub invariant-loop-i : goal.invariant-loop-i
-invariant-loop-i l = (l.i ≤ l.j) × (length l.slots ≡ length l.initial.slots) × (length l.arena ≡ length l.initial.arena) × PackDown l.fanout l.dir l.initial.slots l.initial.arena l.slots l.arena l.i l.end
-
-abbrev pub decreases-loop-i : goal.decreases-loop-i
-decreases-loop-i l = l.j - l.i
+abbrev pub invariant-loop-d : goal.invariant-loop-d
+invariant-loop-d l = PackDown l.fanout l.dir l.initial.slots l.initial.arena l.slots l.arena l.d-index l.end.0

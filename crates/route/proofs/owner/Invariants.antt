@@ -2,12 +2,12 @@
 -- is above it.
 -- Assumes nothing.
 use Prim.Native.Nat.{◌-◌}
-use Rattle.layout.specs.Lays.{buffers}
+use Rattle.layout.specs.Viewed.{leaves_of}
 use Rattle.route.proofs.Steps.{Narrowed}
 use Rattle.route.proofs.owner.Given as goal
 
 abbrev pub invariant-loop-high : goal.invariant-loop-high
-invariant-loop-high l = Narrowed (buffers l.h l.slots l.arena) l.dir l.h.leaves l.key l.low l.high
+invariant-loop-high l = Narrowed (leaves_of l.v) l.v.header.leaves l.key l.low l.high
 
 abbrev pub decreases-loop-high : goal.decreases-loop-high
 decreases-loop-high l = l.high - l.low

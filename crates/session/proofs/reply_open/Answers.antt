@@ -3,6 +3,7 @@
 use lib.Seq.{length-take-le}
 use mathlib.Core.Path.{sym}
 use Rattle.session.specs.FrontLaws.{open_line, open_parts, open_served}
+use Rattle.std.proofs.Common.{Some}
 use Rattle.session.specs.Serving.{told_command}
 use native.Mathlib.Omega.{arith}
 use Rattle.session.proofs.reply_open.Goals as goal
@@ -32,4 +33,4 @@ pub serve-r-requires : goal.serve-r-requires
 serve-r-requires c = open_line c.requires
 
 pub returns : goal.returns
-returns c = open_served c.requires (told_command c.args.line c.args.key.now c.args.value.now) c.serve-r.auto.dir c.serve-r.auto.slots c.serve-r.auto.arena c.serve-r.ensures c.opened.ensures
+returns c = open_served c.requires (told_command (Some c.args.line) c.args.key.now c.args.value.now) c.serve-r.auto.dir c.serve-r.auto.slots c.serve-r.auto.arena c.serve-r.ensures c.opened.ensures

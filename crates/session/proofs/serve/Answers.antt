@@ -3,9 +3,8 @@
 use lib.ListN.{take}
 use lib.Seq.{length-take-le}
 use mathlib.Core.Path.{sym}
-use Rattle.lines.specs.declared.Line.TheVariants.{Bad, Del, Get, Leaves, Next, Put}
-use Rattle.session.proofs.Keys.{bad_key}
-use Rattle.session.specs.ServeLaws.{bad_asked, bad_served, del_within, get_asked, get_served, get_within, leaves_asked, leaves_served, next_asked, next_served, next_within, put-within, told_served}
+use Rattle.lines.specs.declared.Line.TheVariants.{Del, Get, Leaves, Next, Put}
+use Rattle.session.specs.ServeLaws.{del_within, get_asked, get_served, get_within, leaves_asked, leaves_served, next_asked, next_served, next_within, put-within, told_served}
 use Rattle.session.proofs.serve.Goals as goal
 
 pub slice_bounds-reply_put-end : goal.slice_bounds-reply_put-end
@@ -32,9 +31,6 @@ reply_leaves-requires c = leaves_asked c.requires.asked
 pub slice_bounds-reply_del-end : goal.slice_bounds-reply_del-end
 slice_bounds-reply_del-end c = sym (length-take-le _ _ (del_within c.requires c.in-Del.is))
 
-pub write_bad-requires : goal.write_bad-requires
-write_bad-requires c = bad_asked c.requires.asked
-
 pub returns-in-Put : goal.returns-in-Put
 returns-in-Put c = told_served c.args.line (Put c.in-Put.n c.in-Put.m) c.args.key.now c.args.value.now c.in-Put.is c.reply_put.ensures
 
@@ -49,6 +45,3 @@ returns-in-Leaves c = told_served c.args.line Leaves c.args.key.now c.args.value
 
 pub returns-in-Del : goal.returns-in-Del
 returns-in-Del c = told_served c.args.line (Del c.in-Del.n) c.args.key.now c.args.value.now c.in-Del.is c.reply_del.ensures
-
-pub returns-in-New : goal.returns-in-New
-returns-in-New c = told_served c.args.line Bad c.args.key.now c.args.value.now (bad_key c.args.line c.in-New.in-New-own.keys6 c.requires.ordinary) (bad_served c.write_bad.ensures)

@@ -3,7 +3,7 @@
 use lib.Seq.{length-take-le}
 use mathlib.Core.Path.{◌∙◌, sym}
 use Rattle.session.specs.FrontLaws.{not_above}
-use Rattle.session.specs.NewLaws.{above_replied, kept_replied, made_replied, new_asked, new_parts, refuse_asked}
+use Rattle.session.specs.NewLaws.{above_replied, kept_is, kept_replied, made_is, made_replied, new_asked, new_parts, refuse_asked}
 use native.Mathlib.Omega.{arith}
 use Rattle.session.proofs.start_afresh.Goals as goal
 
@@ -31,11 +31,11 @@ slice_bounds-reply_new-end-4 c = sym (length-take-le _ _ (new_parts c.requires c
 pub slice_bounds-reply_new-end-5 : goal.slice_bounds-reply_new-end-5
 slice_bounds-reply_new-end-5 c = sym (length-take-le _ _ (new_parts c.requires c.above_ceiling.ensures c.if-above_ceiling.false).arena_in)
 
-pub reply_new-requires : goal.reply_new-requires
-reply_new-requires c = new_asked c.requires c.args.n.fanout c.args.n.pool c.args.n.arena
+pub reply_new-r-requires : goal.reply_new-r-requires
+reply_new-r-requires c = new_asked c.requires c.args.n.fanout c.args.n.pool c.args.n.arena
 
-pub returns-in-Made : goal.returns-in-Made
-returns-in-Made c = made_replied c.args.out.now c.args.at c.args.s c.args.n.fanout c.args.n.pool c.args.n.arena (not_above (sym c.above_ceiling.ensures ∙ c.if-above_ceiling.false)) (new_parts c.requires c.above_ceiling.ensures c.if-above_ceiling.false) (sym c.above_ceiling.ensures ∙ c.if-above_ceiling.false) c.reply_new.new.dir c.reply_new.new.slots c.reply_new.new.out c.reply_new.result c.reply_new.auto.dir c.reply_new.auto.slots c.reply_new.ensures c.in-Made.is c.opened.ensures
+pub returns-in-Some : goal.returns-in-Some
+returns-in-Some c = made_replied c.args.out.now c.args.at c.args.s c.args.n.fanout c.args.n.pool c.args.n.arena (not_above (sym c.above_ceiling.ensures ∙ c.if-above_ceiling.false)) (new_parts c.requires c.above_ceiling.ensures c.if-above_ceiling.false) (sym c.above_ceiling.ensures ∙ c.if-above_ceiling.false) c.reply_new-r.new.dir c.reply_new-r.new.slots c.reply_new-r.new.out c.reply_new-r.result c.reply_new-r.auto.dir c.reply_new-r.auto.slots c.reply_new-r.ensures (made_is c.reply_new-r.result c.in-Some.is) c.opened-session.ensures
 
-pub returns-in-Kept : goal.returns-in-Kept
-returns-in-Kept c = kept_replied c.args.out.now c.args.at c.args.s c.args.n.fanout c.args.n.pool c.args.n.arena (not_above (sym c.above_ceiling.ensures ∙ c.if-above_ceiling.false)) (new_parts c.requires c.above_ceiling.ensures c.if-above_ceiling.false) (sym c.above_ceiling.ensures ∙ c.if-above_ceiling.false) c.reply_new.new.dir c.reply_new.new.slots c.reply_new.new.out c.reply_new.result c.reply_new.auto.dir c.reply_new.auto.slots c.reply_new.ensures c.in-Kept.is
+pub returns-in-None : goal.returns-in-None
+returns-in-None c = kept_replied c.args.out.now c.args.at c.args.s c.args.n.fanout c.args.n.pool c.args.n.arena (not_above (sym c.above_ceiling.ensures ∙ c.if-above_ceiling.false)) (new_parts c.requires c.above_ceiling.ensures c.if-above_ceiling.false) (sym c.above_ceiling.ensures ∙ c.if-above_ceiling.false) c.reply_new-r.new.dir c.reply_new-r.new.slots c.reply_new-r.new.out c.reply_new-r.result c.reply_new-r.auto.dir c.reply_new-r.auto.slots c.reply_new-r.ensures (kept_is c.reply_new-r.result c.in-None.is)

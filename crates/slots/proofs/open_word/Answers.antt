@@ -6,4 +6,4 @@ use Rattle.slots.proofs.open_word.Goals as goal
 pub returns : goal.returns
 returns c =
     let g = c.args in
-    word_opened g.slots.now _ _ _ c.requires c.move_words.ensures
+    word_opened g.slots.now _ _ _ c.requires c.move_within.ensures

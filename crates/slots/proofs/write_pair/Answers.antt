@@ -6,4 +6,4 @@ use Rattle.slots.proofs.write_pair.Goals as goal
 pub returns : goal.returns
 returns c =
     let g = c.args in
-    pair_put g.arena.now _ g.suffix.now g.value.now c.requires c.copy_bytes.ensures c.copy_bytes-2.ensures
+    pair_put g.arena.now _ g.suffix.now g.value.now c.requires c.copy_into.ensures c.copy_into-2.ensures

@@ -6,20 +6,20 @@ use Rattle.spots.specs.SeekLaws.{sought_at, sought_gap}
 use native.Mathlib.Omega.{arith}
 use Rattle.spots.proofs.seek.Goals as goal
 
-pub leaf_of-leaf-requires : goal.leaf_of-leaf-requires
-leaf_of-leaf-requires c = let i = c.requires in (i, (routed i.presumed _ (c.owner-j.ensures i.nodes i.presumed)).within)
+pub leaf_of-read-requires : goal.leaf_of-read-requires
+leaf_of-read-requires c = (routed c.args.v.now.index.presumed _ c.owner-leaf.ensures).within
 
 pub slice_bounds-find-count : goal.slice_bounds-find-count
-slice_bounds-find-count c = let i = c.requires in omega (arith, key_long (c.leaf_of-leaf.ensures i.nodes i.presumed) (routed i.presumed _ (c.owner-j.ensures i.nodes i.presumed)))
+slice_bounds-find-count c = omega (arith, key_long c.leaf_of-read.ensures (routed c.args.v.now.index.presumed _ c.owner-leaf.ensures))
 
 pub slice_bounds-find-start : goal.slice_bounds-find-start
-slice_bounds-find-start c = let i = c.requires in omega (arith, key_long (c.leaf_of-leaf.ensures i.nodes i.presumed) (routed i.presumed _ (c.owner-j.ensures i.nodes i.presumed)))
+slice_bounds-find-start c = omega (arith, key_long c.leaf_of-read.ensures (routed c.args.v.now.index.presumed _ c.owner-leaf.ensures))
 
 pub find-requires : goal.find-requires
-find-requires c = let i = c.requires in find_asks i.presumed (c.leaf_of-leaf.ensures i.nodes i.presumed) (routed i.presumed _ (c.owner-j.ensures i.nodes i.presumed)).within
+find-requires c = let x = c.args.v.now.index.presumed in find_asks x c.leaf_of-read.ensures (routed x _ c.owner-leaf.ensures).within
 
-pub returns-in-At : goal.returns-in-At
-returns-in-At c = λ ns x. sought_at x _ (c.owner-j.ensures ns x) (c.leaf_of-leaf.ensures ns x) c.find.ensures _ c.in-At.is
+pub returns-in-Ok : goal.returns-in-Ok
+returns-in-Ok c = sought_at c.args.v.now.index.presumed _ c.owner-leaf.ensures c.leaf_of-read.ensures c.find.ensures _ c.in-Ok.is
 
-pub returns-in-Gap : goal.returns-in-Gap
-returns-in-Gap c = λ ns x. sought_gap x _ (c.owner-j.ensures ns x) (c.leaf_of-leaf.ensures ns x) c.find.ensures _ c.in-Gap.is
+pub returns-in-Err : goal.returns-in-Err
+returns-in-Err c = sought_gap c.args.v.now.index.presumed _ c.owner-leaf.ensures c.leaf_of-read.ensures c.find.ensures _ c.in-Err.is

@@ -1,14 +1,11 @@
 -- `contains_key` meets its contract.
 -- Assumes nothing.
-use mathlib.Core.Path.{ap, sym}
-use Rattle.tree_get.specs.ValueLaws.{contained_of, contains_by}
+use Rattle.layout.specs.Viewed.{view_held}
+use Rattle.tree_get.specs.GetLaws.{outcome_held}
+use Rattle.tree_get.specs.Outcomes.{Contains}
 use Rattle.tree_get.proofs.contains_key.Goals as goal
 
-pub returns-in-At : goal.returns-in-At
-returns-in-At c = contains_by c.args.key.now c.get.ensures (ap contained_of (sym c.in-At.is))
-
-pub returns-in-Nothing : goal.returns-in-Nothing
-returns-in-Nothing c = contains_by c.args.key.now c.get.ensures (ap contained_of (sym c.in-Nothing.is))
-
-pub returns-in-Refused : goal.returns-in-Refused
-returns-in-Refused c = contains_by c.args.key.now c.get.ensures (ap contained_of (sym c.in-Refused.is))
+pub returns : goal.returns
+returns c =
+    outcome_held _ _ c.in_ok-open.ensures.1
+    (view_held (λ h dir slots arena ns. Contains c.args.key.now c.contains_key.result ns) c.in_ok-open.field-0 c.in_ok-open.ensures.0 c.contains_key.ensures)

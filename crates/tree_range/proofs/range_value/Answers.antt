@@ -1,15 +1,12 @@
 -- `range_value` meets its contract.
 -- Assumes nothing.
-use mathlib.Core.Path.{refl}
-use Rattle.layout.specs.Presumed.{entry_damaged, entry_held, w_index}
-use Rattle.lists.specs.Exact.{refuted}
+use Rattle.std.proofs.Common.{sym}
+use Rattle.tree_range.specs.FoundLaws.{range_value_held}
 use Rattle.tree_range.proofs.range_value.Goals as goal
 
-pub returns-then-not-holds_index : goal.returns-then-not-holds_index
-returns-then-not-holds_index c = entry_damaged (refuted c.if-not-holds_index.true c.holds_index.ensures) refl
-
 pub range_value-requires : goal.range_value-requires
-range_value-requires c = w_index (c.holds_index.ensures.sound c.if-not-holds_index.false)
+range_value-requires c = sym c.in-Ok.ensures.0.arena_is
 
 pub returns : goal.returns
-returns c = entry_held (c.holds_index.ensures.sound c.if-not-holds_index.false) c.range_value.ensures
+returns c =
+    range_value_held c.args.range c.args.start.now c.args.end.now c.in-Ok.v c.in-Ok.ensures.1 c.in-Ok.ensures.0 c.range_value.ensures

@@ -4,4 +4,4 @@ use Rattle.leaf.proofs.Steps.{suffix_compared}
 use Rattle.leaf.proofs.search.compare_suffix.Goals as goal
 
 pub returns : goal.returns
-returns c = suffix_compared _ c.unpack_slot-s.result c.unpack_slot-s.ensures c.compare.ensures
+returns c = suffix_compared _ c.from-slot.result c.from-slot.ensures c.compare.ensures

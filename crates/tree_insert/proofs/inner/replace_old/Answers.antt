@@ -1,17 +1,11 @@
 -- `replace_old` meets its contract.
 -- Assumes nothing.
-use Rattle.tree_insert.specs.ReplaceLaws.{again_asked, longer_asked, longer_replaced, short_asked, short_replaced}
+use Rattle.tree_insert.specs.ReplaceLaws.{again_asked, longer_replaced, short_replaced}
 use native.Mathlib.Omega.{arith}
 use Rattle.tree_insert.proofs.inner.replace_old.Goals as goal
 
-pub replace_pair-requires : goal.replace_pair-requires
-replace_pair-requires c = short_asked c.requires (omega (arith, c.if-value-old.true))
-
 pub returns-then-value-old : goal.returns-then-value-old
 returns-then-value-old c = short_replaced (omega (arith, c.if-value-old.true)) c.replace_pair.ensures
-
-pub remove_pair-r-requires : goal.remove_pair-r-requires
-remove_pair-r-requires c = longer_asked c.requires
 
 pub insert_pair-requires : goal.insert_pair-requires
 insert_pair-requires c = again_asked c.remove_pair-r.ensures c.requires

@@ -1,20 +1,15 @@
--- `sizes_met` meets its contract.
+-- `sizes_met` meets its contract: the product is taken only of a fanout and a pool within their limits.
 -- Assumes nothing.
-use Rattle.tree_read.proofs.Run.{sizes_fanout, sizes_pool, sizes_slots, sizes_all, product_fits}
+use mathlib.Core.Path.{sym, ◌∙◌}
+use Rattle.lists.specs.Exact.{no_way}
+use Rattle.tree_read.proofs.Run.{product_fits}
 use native.Mathlib.Omega.{arith}
 use Rattle.tree_read.proofs.sizes.sizes_met.Goals as goal
-
-pub returns-then-not-fanout_met : goal.returns-then-not-fanout_met
-returns-then-not-fanout_met c = sizes_fanout _ _ _ _ c.if-not-fanout_met.true c.fanout_met.ensures
-
-pub returns-then-not-pool_met : goal.returns-then-not-pool_met
-returns-then-not-pool_met c = sizes_pool _ _ _ _ c.if-not-pool_met.true c.pool_met.ensures
+use Rattle.tree_read.proofs.sizes.sizes_met.Goals.{then-fanout_met, else-fanout_met}
 
 pub overflow_mul-fanout : goal.overflow_mul-fanout
-overflow_mul-fanout c = omega (arith, product_fits _ _ (c.fanout_met.ensures.sound c.if-not-fanout_met.false).1 (c.pool_met.ensures.sound c.if-not-pool_met.false).1)
-
-pub returns-then-slots-fanout : goal.returns-then-slots-fanout
-returns-then-slots-fanout c = sizes_slots _ _ _ _ (λ e. omega arith)
-
-pub returns : goal.returns
-returns c = sizes_all _ _ _ _ (c.fanout_met.ensures.sound c.if-not-fanout_met.false) (c.pool_met.ensures.sound c.if-not-pool_met.false) (omega arith) c.arena_met.ensures
+overflow_mul-fanout c =
+    elim c.if-fanout_met.branch [
+      | then-fanout_met w ↦ omega (arith, product_fits _ _ (c.fanout_met.ensures.sound w.if-fanout_met.true).1 (w.pool_met.ensures.sound (sym w.value-is ∙ c.if-pool_met.true)).1)
+      | else-fanout_met w ↦ no_way (sym w.if-fanout_met.false ∙ sym w.value-is ∙ c.if-pool_met.true)
+    ]

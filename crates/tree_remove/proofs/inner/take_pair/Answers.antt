@@ -5,9 +5,6 @@ use native.Mathlib.Omega.{arith}
 use Rattle.tree_remove.proofs.inner.take_pair.Goals as goal
 use Rattle.tree_remove.proofs.inner.take_pair.Goals.{else-is_empty-via-then-is_empty+else-j-r, else-is_empty-via-else-is_empty}
 
-pub remove_pair-r-requires : goal.remove_pair-r-requires
-remove_pair-r-requires c = c.requires
-
 pub offset_bounds-dir-j : goal.offset_bounds-dir-j
 offset_bounds-dir-j c = omega (arith, take_small c.requires)
 

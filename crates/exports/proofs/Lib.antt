@@ -1,2 +1,0 @@
-pub mod TellChange
-pub mod TellOld

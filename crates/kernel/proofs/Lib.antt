@@ -1,3 +1,0 @@
-pub mod Machine
-pub mod OfAnswered
-pub mod OfChanged
