@@ -1,5 +1,5 @@
 // Fills an index and empties it: a caller that owns its buffers tests W once, and then makes all its calls through the functions under the
-// entry points, which presume an index and leave one.
+// entry points, which presume an index and leave one. (Header and buffers stay apart, as those functions take them.)
 #![tactic(auto)]
 
 ghost use Rattle.std.specs.Prelude.{◌<◌, ◌≤◌, ◌≡◌, length};

@@ -1,4 +1,5 @@
 // L7 on an index: any empty leaf that has a right neighbour takes its pairs and its upper key; the neighbour is freed.
+// On parts, not on a struct with the index as its fact: that fact must hold after each write, so what writes twice would stay on parts under it.
 #![tactic(auto)]
 
 ghost use Rattle.std.specs.Prelude.{◌<◌, suc, ◌≡◌};

@@ -1,4 +1,5 @@
 // One pair of an index changed in the leaf that owns its key: put in, taken out, its value replaced. Each leaves an index, and its header.
+// On parts, not on a struct with the index as its fact: that fact must hold after each write, so what writes twice would stay on parts under it.
 #![tactic(auto)]
 
 ghost use Rattle.pair_edit.specs.PairEdits.{CanInsert, CanRemove, CanReplace, InsertedPair, RemovedPair, ReplacedPair};

@@ -12,6 +12,8 @@ use Rattle.session.specs.Takes.{Feeds, LinesAsked, LinesTaken, line_room}
 use Rattle.session.specs.Turns.{State, closed, line_turn}
 use Rattle.session.specs.declared.take.Fed.{Fed}
 use Rattle.script.specs.declared.Carried.{Carried}
+use Rattle.script.specs.declared.Input.{Input}
+use Rattle.script.specs.declared.Input.TheVariants.{Ended, Failed, More}
 use Rattle.script.specs.declared.Reads.{Reads}
 
 -- a last line without a newline counts as a line; an input that ends behind a newline has none
@@ -70,15 +72,33 @@ pub record Filled (f : Fed) (out : List ℕ) : Type 0 where
   pub asked : LinesAsked (begun c next) dir slots arena piece line key value old before
   pub taken : LinesTaken (begun c next) dir slots arena piece line before f now_dir now_slots now_arena now_line out
 
+-- more input may come
+
+abbrev pub is_more : Input → Bool
+is_more More = true
+is_more Ended = false
+is_more Failed = false
+
+-- none does, since a read or a write failed
+abbrev pub has_failed : Input → Bool
+has_failed More = false
+has_failed Ended = false
+has_failed Failed = true
+
 -- no more input comes
+
+abbrev pub stopped : (failed : Bool) → Input
+stopped false = Ended
+stopped true = Failed
+
 abbrev pub ended : Carried → (failed : Bool) → Carried
-ended c failed = record { session = c.session; held = c.held; more = false; failed = failed }
+ended c failed = record { session = c.session; held = c.held; input = stopped failed }
 
 -- the input ends here exactly where a write is said to have failed
 pub record Kept (f : Fed) (r : Carried) : Type 0 where
   pub session_is : r.session ≡ f.session
   pub held_is : r.held ≡ f.held
-  pub failed_is : r.failed ≡ not r.more
+  pub failed_is : has_failed r.input ≡ not (is_more r.input)
 
 -- the output buffer: the room for an answer, twice
 unfoldable pub output_length : ℕ
@@ -103,7 +123,7 @@ pub record Went (z : State) (held piece : Bytes) (r : Carried) (now_dir now_slot
   pub state : State
   pub rest : Bytes
   pub within : taken ≤ length piece
-  pub whole : r.more ≡ true → taken ≡ length piece
+  pub whole : is_more r.input ≡ true → taken ≡ length piece
   pub feeds : Feeds z held (take taken piece) text state rest
   pub carries : Carries state r.session now_dir now_slots now_arena
   pub keeps : Keeps now_line r.held rest
@@ -111,7 +131,7 @@ pub record Went (z : State) (held piece : Bytes) (r : Carried) (now_dir now_slot
 pub record Answered (c : Carried) (dir slots arena line piece : List ℕ) (r : Carried) (now_dir now_slots now_arena now_line : List ℕ) : Type 0 where
   pub went : (z : State) (held : Bytes) → Carries z c.session dir slots arena → Keeps line c.held held
       → Went z held piece r now_dir now_slots now_arena now_line
-  pub failed_is : c.more ≡ true → c.failed ≡ false → r.failed ≡ not r.more
+  pub failed_is : is_more c.input ≡ true → has_failed c.input ≡ false → has_failed r.input ≡ not (is_more r.input)
 
 -- what stands and what is held are as they were, and no more input comes
 pub record Over (c : Carried) (failed : Bool) (dir slots arena line : List ℕ) (r : Carried) (now_dir now_slots now_arena now_line : List ℕ) : Type 0 where
@@ -144,7 +164,7 @@ pub record Led (c : Carried) (dir slots arena line key value old out : List ℕ)
   pub feeds : Feeds closed [] fed text state rest
   pub carries : Carries state c.session dir slots arena
   pub keeps : Keeps line c.held rest
-  pub unfailed : c.more ≡ true → c.failed ≡ false
+  pub unfailed : is_more c.input ≡ true → has_failed c.input ≡ false
 
 -- usize::MAX
 unfoldable pub turn_limit : ℕ
@@ -153,11 +173,11 @@ turn_limit = 18446744073709551615
 -- no more comes, unless the turns ran out
 pub record AllRead (r : Reads) (dir slots arena line key value old out : List ℕ) : Type 0 where
   pub led : Led r.carried dir slots arena line key value old out
-  pub all : r.carried.more ≡ true → r.turns ≡ turn_limit
+  pub all : is_more r.carried.input ≡ true → r.turns ≡ turn_limit
 
 -- the answer to a last line without a newline is at the output's front; where a read or a write failed, there is none
 pub record Last (c : Carried) (dir slots arena line out now_out : List ℕ) : Type 0 where
   pub none_held : c.held ≡ 0 → now_out ≡ out
-  pub failed : c.failed ≡ true → now_out ≡ out
+  pub failed : has_failed c.input ≡ true → now_out ≡ out
   pub answered : (z : State) (held : Bytes) (said : Option Command) → Carries z c.session dir slots arena → Keeps line c.held held → Tells held said
-      → (c.held ≡ 0 → ⊥) → c.failed ≡ false → now_out ≡ put out 0 (line_turn z said).text
+      → (c.held ≡ 0 → ⊥) → has_failed c.input ≡ false → now_out ≡ put out 0 (line_turn z said).text

@@ -13,16 +13,19 @@ use Rattle.lists.specs.Exact.{Exact, exact_no}
 use Rattle.lists.specs.Part.{part, put}
 use Rattle.lists.proofs.PartLaws.{part-put}
 use Rattle.order.specs.Bytes.{Bytes}
+use Rattle.session.specs.Same.{SameBuffers}
 use Rattle.session.specs.Session.{Carries, ReplyAsked, ReplyMade, Tells, no_index}
 use Rattle.session.specs.Takes.{Feeds, LinesAsked, LinesTaken, Takes, line_room}
 use Rattle.session.specs.Takes.Feeds.{done, newline}
 use Rattle.session.specs.TakeLaws.{answer_limit_lem, feeds_append, feeds_one, tells_front, tells_one}
 use Rattle.session.specs.Turns.{State, arena_ceiling, closed, fanout_ceiling, line_turn, output_room, pool_ceiling}
+use Rattle.session.specs.declared.Buffers.{Buffers}
 use Rattle.session.specs.declared.Replied.{Replied}
 use Rattle.session.specs.declared.Session.{Session}
 use Rattle.session.specs.declared.take.Fed.{Fed}
-use Rattle.script.specs.Script.{AllRead, Answered, Due, Ending, Filled, Got, Kept, Last, Led, Over, Ready, Room, Runs, Stepped, begun, ended, output_length, turn_limit}
+use Rattle.script.specs.Script.{AllRead, Answered, Due, Ending, Filled, Got, Kept, Last, Led, Over, Ready, Room, Runs, Stepped, begun, ended, has_failed, is_more, output_length, stopped, turn_limit}
 use Rattle.script.specs.declared.Carried.{Carried}
+use Rattle.script.specs.declared.Input.TheVariants.{More}
 
 -- one input, one text
 
@@ -40,7 +43,7 @@ runs_one p q =
 
 -- the test of the loops
 
-true_false : {A : Type 0} → true ≡ false → A
+pub true_false : {A : Type 0} → true ≡ false → A
 true_false e = absurd (let z : ◌≡◌ {A = ℕ} 0 1 = ap (λ (b : Bool). elim b [ true ↦ 0 | false ↦ 1 ]) e in omega (arith, z))
 
 pub goes_end : (more : Bool) (i end : ℕ) → end ≤ i → Exact false ((more ≡ true) × (i < end))
@@ -60,6 +63,21 @@ pub record Lengths (dir slots arena line key value old out dir' slots' arena' li
   pub value_kept : length value' ≡ length value
   pub old_kept : length old' ≡ length old
   pub out_kept : length out' ≡ length out
+
+-- (those that stay the caller's own do)
+pub same_lengths : {a b : Buffers} {line line' : List ℕ} → SameBuffers a b → length line' ≡ length line
+    → Lengths a.dir.now a.slots.now a.arena.now line a.key.now a.value.now a.found.now a.out.now b.dir.now b.slots.now b.arena.now line' b.key.now b.value.now b.found.now b.out.now
+same_lengths s l =
+    record {
+      dir_kept = s.dir.long;
+      slots_kept = s.slots.long;
+      arena_kept = s.arena.long;
+      line_kept = l;
+      key_kept = s.key.long;
+      value_kept = s.value.long;
+      old_kept = s.found.long;
+      out_kept = s.out.long;
+    }
 
 pub room_kept : {dir slots arena line key value old out dir' slots' arena' line' key' value' old' out' : List ℕ} → Room dir slots arena line key value old out
     → Lengths dir slots arena line key value old out dir' slots' arena' line' key' value' old' out' → Room dir' slots' arena' line' key' value' old' out'
@@ -107,7 +125,7 @@ pub record So (z : State) (held piece : Bytes) (next : ℕ) (r : Carried) (dir s
 
 pub record Along (c : Carried) (dir slots arena line piece : List ℕ) (e : Carried) (next : ℕ) (dir' slots' arena' line' key' value' old' out' : List ℕ) : Type 0 where
   pub went : (z : State) (held : Bytes) → Carries z c.session dir slots arena → Keeps line c.held held → So z held piece next e dir' slots' arena' line'
-  pub failed_is : c.more ≡ true → c.failed ≡ false → e.failed ≡ not e.more
+  pub failed_is : is_more c.input ≡ true → has_failed c.input ≡ false → has_failed e.input ≡ not (is_more e.input)
   pub room : Room dir' slots' arena' line' key' value' old' out'
   pub within : next ≤ length piece
 
@@ -162,11 +180,10 @@ filled_took y = y.taken.taken.took y.asked.asked.state y.asked.asked.bytes y.ask
 pub filled_fits : {f : Fed} {out : List ℕ} → Filled f out → f.at ≤ length out
 filled_fits y = omega (arith, y.taken.taken.written, (filled_took y).wrote.long)
 
-pub filled_due : {f : Fed} {out : List ℕ} → Filled f out → Due (part out 0 (f.at - 0))
+pub filled_due : {f : Fed} {out : List ℕ} → Filled f out → Due (take f.at out)
 filled_due {f} {out} y =
     let w = filled_took y in
     let a = y.asked.asked in
-    let n : f.at - 0 ≡ f.at = omega arith in
     record {
       before = a.state;
       held = a.bytes;
@@ -175,7 +192,7 @@ filled_due {f} {out} y =
       rest = w.rest;
       feeds =
           subst (λ (i : Bytes). Feeds a.state a.bytes (part y.piece y.next (f.next - y.next)) i w.state w.rest)
-          (sym (ap (λ (j : ℕ). take j out) n ∙ wrote_front w.wrote)) w.feeds;
+          (sym (wrote_front w.wrote)) w.feeds;
     }
 
 pub along_written : {c e : Carried} {b f : Fed} {dir slots arena line key value old out piece d₁ s₁ a₁ l₁ k₁ v₁ o₁ u₁ d₂ s₂ a₂ l₂ u₂ : List ℕ} {next : ℕ}
@@ -232,7 +249,7 @@ along_turn {c} {e} {r} {b} {f} {dir} {slots} {arena} {line} {piece} {d₁} {s₁
     }
 
 pub along_done : {c e : Carried} {dir slots arena line piece d₁ s₁ a₁ l₁ k₁ v₁ o₁ u₁ : List ℕ} {next : ℕ}
-    → Along c dir slots arena line piece e next d₁ s₁ a₁ l₁ k₁ v₁ o₁ u₁ → ((e.more ≡ true) × (next < length piece) → ⊥)
+    → Along c dir slots arena line piece e next d₁ s₁ a₁ l₁ k₁ v₁ o₁ u₁ → ((is_more e.input ≡ true) × (next < length piece) → ⊥)
     → Answered c dir slots arena line piece e d₁ s₁ a₁ l₁
 along_done {c} {e} {dir} {slots} {arena} {line} {piece} {d₁} {s₁} {a₁} {l₁} {k₁} {v₁} {o₁} {u₁} {next} g h =
     record {
@@ -264,7 +281,7 @@ got_none (Ok (suc n)) c dir slots arena line input h = absurd (omega (arith, h))
 got_none (Err e) c dir slots arena line input h = over_same c true dir slots arena line
 
 pub got_some : (got : Result ℕ Error) (count : ℕ) (input : List ℕ) {n : ℕ} {c r : Carried} {dir slots arena line d₁ s₁ a₁ l₁ : List ℕ} → got ≡ Ok count
-    → (count ≡ 0 → ⊥) → n ≡ min count (length input) → Answered c dir slots arena line (part input 0 (n - 0)) r d₁ s₁ a₁ l₁
+    → (count ≡ 0 → ⊥) → n ≡ min count (length input) → Answered c dir slots arena line (take n input) r d₁ s₁ a₁ l₁
     → Got got c dir slots arena line input r d₁ s₁ a₁ l₁
 got_some got count input {n} {c} {r} {dir} {slots} {arena} {line} {d₁} {s₁} {a₁} {l₁} e h k p =
     subst (λ (i : Result ℕ Error). Got i c dir slots arena line input r d₁ s₁ a₁ l₁) (sym e) (go count h k)
@@ -272,8 +289,7 @@ got_some got count input {n} {c} {r} {dir} {slots} {arena} {line} {d₁} {s₁} 
     go : (i : ℕ) → (i ≡ 0 → ⊥) → n ≡ min i (length input) → Got (Ok i) c dir slots arena line input r d₁ s₁ a₁ l₁
     go zero t u = absurd (t refl)
     go (suc m) t u =
-        let v : n - 0 ≡ min (suc m) (length input) = (let w : n - 0 ≡ n = omega arith in w) ∙ u in
-        subst (λ (j : ℕ). Answered c dir slots arena line (take j input) r d₁ s₁ a₁ l₁) v p
+        subst (λ (j : ℕ). Answered c dir slots arena line (take j input) r d₁ s₁ a₁ l₁) u p
 
 -- (a read leaves the buffer as long as it was)
 reads_kept : (got : Result ℕ Error) (input now_input : List ℕ) → length now_input ≡ length input → ReadsAtMost got now_input → ReadsAtMost got input
@@ -306,12 +322,11 @@ reply_fits y m =
 
 -- a line is answered as it would be at a newline
 pub reply_due : {c : Carried} {r : Replied} {dir slots arena line said key value old out d₁ s₁ a₁ u₁ : List ℕ} → Ready c dir slots arena line key value old out
-    → ReplyMade c.session dir slots arena said out 0 r d₁ s₁ a₁ u₁ → Due (part u₁ 0 (r.at - 0))
+    → ReplyMade c.session dir slots arena said out 0 r d₁ s₁ a₁ u₁ → Due (take r.at u₁)
 reply_due {r = r} {said = said} {u₁ = u₁} y m =
     let z = y.state in
     let w = m.answered z m.said y.carries m.tells in
-    let n : r.at - 0 ≡ r.at = omega arith in
-    let e : part u₁ 0 (r.at - 0) ≡ (line_turn z m.said).text ++ [] = ap (λ (j : ℕ). take j u₁) n ∙ wrote_front w ∙ sym (append-nil (line_turn z m.said).text) in
+    let e : take r.at u₁ ≡ (line_turn z m.said).text ++ [] = wrote_front w ∙ sym (append-nil (line_turn z m.said).text) in
     record {
       before = z;
       held = said;
@@ -324,18 +339,17 @@ reply_due {r = r} {said = said} {u₁ = u₁} y m =
 pub last_none : (c : Carried) (dir slots arena line out : List ℕ) → c.held ≡ 0 → Last c dir slots arena line out out
 last_none c dir slots arena line out e = record { none_held = λ _. refl; failed = λ _. refl; answered = λ z held said k p t n f. absurd (n e) }
 
-pub last_failed : (c : Carried) (dir slots arena line out : List ℕ) → c.failed ≡ true → Last c dir slots arena line out out
+pub last_failed : (c : Carried) (dir slots arena line out : List ℕ) → has_failed c.input ≡ true → Last c dir slots arena line out out
 last_failed c dir slots arena line out e = record { none_held = λ _. refl; failed = λ _. refl; answered = λ z held said k p t n f. true_false (sym e ∙ f) }
 
-pub last_line : {c : Carried} {r : Replied} {dir slots arena line key value old out d₁ s₁ a₁ u₁ : List ℕ} → Ready c dir slots arena line key value old out → c.failed ≡ false → (c.held ≡ 0 → ⊥)
-    → ReplyMade c.session dir slots arena (part line 0 (c.held - 0)) out 0 r d₁ s₁ a₁ u₁ → Last c dir slots arena line out u₁
+pub last_line : {c : Carried} {r : Replied} {dir slots arena line key value old out d₁ s₁ a₁ u₁ : List ℕ} → Ready c dir slots arena line key value old out → has_failed c.input ≡ false → (c.held ≡ 0 → ⊥)
+    → ReplyMade c.session dir slots arena (take c.held line) out 0 r d₁ s₁ a₁ u₁ → Last c dir slots arena line out u₁
 last_line {c} {r} {dir} {slots} {arena} {line} {key} {value} {old} {out} {d₁} {s₁} {a₁} {u₁} y g h m =
     record {
       none_held = λ e. absurd (h e);
       failed = λ e. true_false (sym e ∙ g);
       answered = λ z held said k p t n f.
-          let kept : part line 0 (c.held - 0) ≡ take line_room held =
-          ap (λ (j : ℕ). take j line) (let i : c.held - 0 ≡ c.held = omega arith in i) ∙ p.front ∙ ap (λ (j : ℕ). take j held) y.room.line_long in
+          let kept : take c.held line ≡ take line_room held = p.front ∙ ap (λ (j : ℕ). take j held) y.room.line_long in
           let same : m.said ≡ said =
           tells_one held m.said said (tells_front held m.said (subst (λ (l : Bytes). Tells l m.said) kept m.tells)) t in
           (m.answered z m.said k m.tells).is ∙ ap (λ (i : Option Command). put out 0 (line_turn z i).text) same;
@@ -344,7 +358,7 @@ last_line {c} {r} {dir} {slots} {arena} {line} {key} {value} {old} {out} {d₁} 
 -- `answer_reads`
 
 pub led_start : {s : Session} {dir slots arena line key value old out : List ℕ} → Room dir slots arena line key value old out → s ≡ no_index
-    → Led (record { session = s; held = 0; more = true; failed = false }) dir slots arena line key value old out
+    → Led (record { session = s; held = 0; input = More }) dir slots arena line key value old out
 led_start {line = line} r e =
     record {
       room = r;
@@ -361,10 +375,14 @@ led_start {line = line} r e =
 pub led_ready : {c : Carried} {dir slots arena line key value old out : List ℕ} → Led c dir slots arena line key value old out → Ready c dir slots arena line key value old out
 led_ready y = record { room = y.room; state = y.state; carries = y.carries; bytes = y.rest; keeps = y.keeps }
 
+none_stopped : (failed : Bool) → is_more (stopped failed) ≡ false
+none_stopped true = refl
+none_stopped false = refl
+
 module _ {c r : Carried} {dir slots arena line key value old out d₁ s₁ a₁ l₁ k₁ v₁ o₁ u₁ : List ℕ} (y : Led c dir slots arena line key value old out)
     (n : Lengths dir slots arena line key value old out d₁ s₁ a₁ l₁ k₁ v₁ o₁ u₁) where
   led_over : {failed : Bool} → Over c failed dir slots arena line r d₁ s₁ a₁ l₁ → Led r d₁ s₁ a₁ l₁ k₁ v₁ o₁ u₁
-  led_over x =
+  led_over {failed} x =
       let s : r.session ≡ c.session = ap (λ (i : Carried). i.session) x.is in
       let h : r.held ≡ c.held = ap (λ (i : Carried). i.held) x.is in
       record {
@@ -376,10 +394,10 @@ module _ {c r : Carried} {dir slots arena line key value old out d₁ s₁ a₁ 
         feeds = y.feeds;
         carries = rw (s, x.dir_is, x.slots_are, x.arena_is) y.carries;
         keeps = rw (h, x.line_is) y.keeps;
-        unfailed = λ m. true_false (sym m ∙ ap (λ (i : Carried). i.more) x.is);
+        unfailed = λ m. true_false (sym m ∙ ap (λ (i : Carried). is_more i.input) x.is ∙ none_stopped failed);
       }
 
-  led_piece : {piece : List ℕ} → Answered c dir slots arena line piece r d₁ s₁ a₁ l₁ → c.more ≡ true → Led r d₁ s₁ a₁ l₁ k₁ v₁ o₁ u₁
+  led_piece : {piece : List ℕ} → Answered c dir slots arena line piece r d₁ s₁ a₁ l₁ → is_more c.input ≡ true → Led r d₁ s₁ a₁ l₁ k₁ v₁ o₁ u₁
   led_piece {piece} x m =
       let w = x.went y.state y.rest y.carries y.keeps in
       record {
@@ -394,12 +412,12 @@ module _ {c r : Carried} {dir slots arena line key value old out d₁ s₁ a₁ 
         unfailed = λ g. x.failed_is m (y.unfailed m) ∙ ap not g;
       }
 
-  led_got : (input : List ℕ) (got : Result ℕ Error) → c.more ≡ true → Got got c dir slots arena line input r d₁ s₁ a₁ l₁ → Led r d₁ s₁ a₁ l₁ k₁ v₁ o₁ u₁
+  led_got : (input : List ℕ) (got : Result ℕ Error) → is_more c.input ≡ true → Got got c dir slots arena line input r d₁ s₁ a₁ l₁ → Led r d₁ s₁ a₁ l₁ k₁ v₁ o₁ u₁
   led_got input (Ok zero) m x = led_over x
   led_got input (Ok (suc i)) m x = led_piece x m
   led_got input (Err e) m x = led_over x
 
-  pub led_step : {input now_input : List ℕ} → c.more ≡ true → Stepped c dir slots arena line input r d₁ s₁ a₁ l₁ now_input → Led r d₁ s₁ a₁ l₁ k₁ v₁ o₁ u₁
+  pub led_step : {input now_input : List ℕ} → is_more c.input ≡ true → Stepped c dir slots arena line input r d₁ s₁ a₁ l₁ now_input → Led r d₁ s₁ a₁ l₁ k₁ v₁ o₁ u₁
   led_step {now_input = input} m x = led_got input x.got m x.answered
 
 pub turn_limit_lem : turn_limit ≡ 18446744073709551615
@@ -407,7 +425,7 @@ unfolding turn_limit
 turn_limit_lem = refl
 
 pub all_read : {c : Carried} {turns : ℕ} {dir slots arena line key value old out : List ℕ} → Led c dir slots arena line key value old out → turns ≤ 18446744073709551615
-    → ((c.more ≡ true) × (turns < 18446744073709551615) → ⊥) → AllRead (record { carried = c; turns = turns }) dir slots arena line key value old out
+    → ((is_more c.input ≡ true) × (turns < 18446744073709551615) → ⊥) → AllRead (record { carried = c; turns = turns }) dir slots arena line key value old out
 all_read {turns = turns} y h f =
     record { led = y; all = λ m. let n : turns < 18446744073709551615 → ⊥ = λ l. f (m, l) in omega (arith, turn_limit_lem) }
 

@@ -1,16 +1,16 @@
 // The script program: one call a line, from standard input; the answers to standard output.
 #![tactic(auto)]
 
-ghost use Rattle.std.specs.Prelude.{◌<◌, true, ◌≡◌};
-ghost use Rattle.lists.specs.Exact.{Exact};
-ghost use Rattle.script.specs.Script.{AllRead, Answered, Due, Filled, Got, Kept, Last, Ready, Room, Stepped, begun, ended};
+ghost use Rattle.std.specs.Prelude.{◌≡◌, ◌≤◌, length, take};
+ghost use Rattle.session.specs.Same.{SameBuffers};
+ghost use Rattle.script.specs.Script.{AllRead, Answered, Due, Filled, Got, Kept, Last, Ready, Room, Stepped, begun, has_failed, is_more};
 
 use session::take::{Fed, take_lines};
-use session::{Session, closed, reply};
+use session::{Buffers, Session, closed, reply};
 use std::io;
 use std::io::{Read, Write};
 
-// As large as the program's ceilings ask.
+// As large as the program's ceilings ask. (Arrays: with a `Vec` that can't be had a line would go without its answer.)
 const DIR_LENGTH: usize = 64;
 
 const SLOTS_LENGTH: usize = 4096;
@@ -26,19 +26,39 @@ const LINE_LENGTH: usize = 4097;
 const PART_LENGTH: usize = 2048;
 
 // An old value, or a found key.
-const OLD_LENGTH: usize = 65536;
+const FOUND_LENGTH: usize = 65536;
 
 // The room for an answer, twice.
 const OUTPUT_LENGTH: usize = 266240;
 
-// What goes on from one piece of input to the next: which index there is, how many bytes of a line are held, whether there may be more input, and
-// whether a read or a write has failed.
+// Whether more input may come. None does at the input's end, and where a read or a write failed.
+#[derive(Clone, Copy, Debug, PartialEq, Eq)]
+enum Input {
+    More,
+    Ended,
+    Failed,
+}
+
+impl Input {
+    fn is_more(self) -> bool
+        ensures { result ≡ is_more self }
+    {
+        matches!(self, Input::More)
+    }
+
+    fn has_failed(self) -> bool
+        ensures { result ≡ has_failed self }
+    {
+        matches!(self, Input::Failed)
+    }
+}
+
+// What goes on from one piece of input to the next: which index there is, how many bytes of a line are held, and whether there may be more input.
 #[derive(Clone, Copy)]
 struct Carried {
     session: Session,
     held: usize,
-    more: bool,
-    failed: bool,
+    input: Input,
 }
 
 // What the reads left, and how many there were.
@@ -48,89 +68,60 @@ struct Reads {
     turns: usize,
 }
 
-// There may be more input, and `i` is below the end.
-fn goes_on(c: Carried, i: usize, end: usize) -> bool
-    ensures { Exact result ((c.more ≡ true) × (i < end)) }
-{
-    if end <= i {
-        return false;
-    }
-    c.more
-}
-
 // The output is empty, and the piece is taken from `next` on.
 fn begin(c: Carried, next: usize) -> Fed
     ensures { result ≡ begun c next }
 {
-    let s = c.session;
     Fed {
-        session: s,
-        next: next,
+        session: c.session,
+        next,
         held: c.held,
         at: 0,
     }
 }
 
-// No more input comes: what stands and what is held goes on as it is.
-fn end(c: Carried, failed: bool) -> Carried
-    ensures { result ≡ ended c failed }
+// Hands the output's first bytes, a text of the program, to the writer: of what comes of that no contract says anything.
+fn write_text<W: Write>(b: &Buffers<'_>, end: usize, writer: &mut W) -> io::Result<()>
+    requires { (end ≤ length b.now.out.now) × Due (take end b.now.out.now) }
 {
-    let s = c.session;
-    Carried {
-        session: s,
-        held: c.held,
-        more: false,
-        failed: failed,
-    }
-}
-
-// Hands a text of the program to the writer: of what comes of that no contract says anything.
-fn write_text<W: Write>(text: &[u8], writer: &mut W) -> io::Result<()>
-    requires { Due text.now }
-{
-    writer.write_all(text)
+    writer.write_all(&b.out[..end])
 }
 
 // Writes the answers out. Where that fails, there is no more input.
-fn write_out<W: Write>(f: Fed, out: &[u8], writer: &mut W) -> Carried
-    requires { Filled f out.now }
+fn write_out<W: Write>(f: Fed, b: &Buffers<'_>, writer: &mut W) -> Carried
+    requires { Filled f b.now.out.now }
     ensures { Kept f result }
 {
-    let n = f.at;
-    let s = f.session;
-    let is_written = write_text(&out[0..n], writer).is_ok();
+    let input = match write_text(b, f.at, writer) {
+        Ok(()) => Input::More,
+        Err(_) => Input::Failed,
+    };
     Carried {
-        session: s,
+        session: f.session,
         held: f.held,
-        more: is_written,
-        failed: !is_written,
+        input,
     }
 }
 
 // A piece of input answered, the output written whenever it is nearly full, and at the end.
 fn answer_piece<W: Write>(
     c: Carried,
-    dir: &mut [u32],
-    slots: &mut [u64],
-    arena: &mut [u8],
+    b: &mut Buffers<'_>,
     piece: &[u8],
     line: &mut [u8],
-    key: &mut [u8],
-    value: &mut [u8],
-    old: &mut [u8],
-    out: &mut [u8],
     writer: &mut W,
 ) -> Carried
-    requires { Ready c dir.old slots.old arena.old line.old key.old value.old old.old out.old }
-    ensures { Answered c dir.old slots.old arena.old line.old piece.now result dir.new slots.new arena.new line.new }
+    requires { Ready c b.old.dir.now b.old.slots.now b.old.arena.now line.old b.old.key.now b.old.value.now b.old.found.now b.old.out.now }
+    ensures answered { Answered c b.old.dir.now b.old.slots.now b.old.arena.now line.old piece.now result b.new.dir.now b.new.slots.now b.new.arena.now line.new }
+    ensures same { SameBuffers b.old b.new }
 {
     let mut e = c;
     let mut next = 0;
-    while goes_on(e, next, piece.len()) {
-        let b = begin(e, next);
-        let f = take_lines(b, dir, slots, arena, piece, line, key, value, old, out);
+    // (A `while`: how far a turn comes says `take_lines`, and a write may end it.)
+    while next < piece.len() && e.input.is_more() {
+        let f = take_lines(begin(e, next), b, piece, line);
         next = f.next;
-        e = write_out(f, out, writer);
+        e = write_out(f, b, writer);
     }
     e
 }
@@ -139,154 +130,116 @@ fn answer_piece<W: Write>(
 fn answer_got<W: Write>(
     c: Carried,
     got: io::Result<usize>,
-    dir: &mut [u32],
-    slots: &mut [u64],
-    arena: &mut [u8],
+    b: &mut Buffers<'_>,
     input: &[u8],
     line: &mut [u8],
-    key: &mut [u8],
-    value: &mut [u8],
-    old: &mut [u8],
-    out: &mut [u8],
     writer: &mut W,
 ) -> Carried
-    requires { Ready c dir.old slots.old arena.old line.old key.old value.old old.old out.old }
-    ensures { Got got c dir.old slots.old arena.old line.old input.now result dir.new slots.new arena.new line.new }
+    requires { Ready c b.old.dir.now b.old.slots.now b.old.arena.now line.old b.old.key.now b.old.value.now b.old.found.now b.old.out.now }
+    ensures got { Got got c b.old.dir.now b.old.slots.now b.old.arena.now line.old input.now result b.new.dir.now b.new.slots.now b.new.arena.now line.new }
+    ensures same { SameBuffers b.old b.new }
 {
     match got {
-        Ok(0) => end(c, false),
+        Ok(0) => Carried {
+            input: Input::Ended,
+            ..c
+        },
         Ok(count) => {
-            let n = count.min(input.len());
-            answer_piece(
-                c,
-                dir,
-                slots,
-                arena,
-                &input[0..n],
-                line,
-                key,
-                value,
-                old,
-                out,
-                writer,
-            )
+            let count = count.min(input.len());
+            answer_piece(c, b, &input[..count], line, writer)
         }
-        Err(_) => end(c, true),
+        Err(_) => Carried {
+            input: Input::Failed,
+            ..c
+        },
     }
 }
 
 // Reads once, and answers what came.
 fn answer_some<R: Read, W: Write>(
     c: Carried,
-    dir: &mut [u32],
-    slots: &mut [u64],
-    arena: &mut [u8],
+    b: &mut Buffers<'_>,
     input: &mut [u8],
     line: &mut [u8],
-    key: &mut [u8],
-    value: &mut [u8],
-    old: &mut [u8],
-    out: &mut [u8],
     reader: &mut R,
     writer: &mut W,
 ) -> Carried
-    requires { Ready c dir.old slots.old arena.old line.old key.old value.old old.old out.old }
-    ensures { Stepped c dir.old slots.old arena.old line.old input.old result dir.new slots.new arena.new line.new input.new }
+    requires { Ready c b.old.dir.now b.old.slots.now b.old.arena.now line.old b.old.key.now b.old.value.now b.old.found.now b.old.out.now }
+    ensures stepped { Stepped c b.old.dir.now b.old.slots.now b.old.arena.now line.old input.old result b.new.dir.now b.new.slots.now b.new.arena.now line.new input.new }
+    ensures same { SameBuffers b.old b.new }
 {
     let got = reader.read(input);
-    answer_got(
-        c, got, dir, slots, arena, input, line, key, value, old, out, writer,
-    )
+    answer_got(c, got, b, input, line, writer)
 }
 
 // A last line without a newline counts as a line, unless a read or a write failed: then what is held may be cut.
-fn answer_last<W: Write>(
-    c: Carried,
-    dir: &mut [u32],
-    slots: &mut [u64],
-    arena: &mut [u8],
-    line: &[u8],
-    key: &mut [u8],
-    value: &mut [u8],
-    old: &mut [u8],
-    out: &mut [u8],
-    writer: &mut W,
-)
-    requires { Ready c dir.old slots.old arena.old line.now key.old value.old old.old out.old }
-    ensures { Last c dir.old slots.old arena.old line.now out.old out.new }
+fn answer_last<W: Write>(c: Carried, b: &mut Buffers<'_>, line: &[u8], writer: &mut W)
+    requires { Ready c b.old.dir.now b.old.slots.now b.old.arena.now line.now b.old.key.now b.old.value.now b.old.found.now b.old.out.now }
+    ensures last { Last c b.old.dir.now b.old.slots.now b.old.arena.now line.now b.old.out.now b.new.out.now }
+    ensures same { SameBuffers b.old b.new }
 {
-    if c.failed {
+    if c.input.has_failed() || c.held == 0 {
         return;
     }
-    let n = c.held;
-    if n == 0 {
-        return;
-    }
-    let s = c.session;
-    let r = reply(s, dir, slots, arena, &line[0..n], key, value, old, out, 0);
-    let e = r.at;
+    let r = reply(
+        c.session,
+        b.dir,
+        b.slots,
+        b.arena,
+        &line[..c.held],
+        b.key,
+        b.value,
+        b.found,
+        b.out,
+        0,
+    );
     // Nothing comes after it, so nothing depends on whether it was written.
-    let _ = write_text(&out[0..e], writer);
+    let _ = write_text(b, r.at, writer);
 }
 
 // Reads and answers until no more comes. A proved loop has to end, and nothing says that the input does: so the turns are counted up to a number
 // that no run comes to.
 fn answer_reads<R: Read, W: Write>(
-    dir: &mut [u32],
-    slots: &mut [u64],
-    arena: &mut [u8],
+    b: &mut Buffers<'_>,
     input: &mut [u8],
     line: &mut [u8],
-    key: &mut [u8],
-    value: &mut [u8],
-    old: &mut [u8],
-    out: &mut [u8],
     reader: &mut R,
     writer: &mut W,
 ) -> Reads
-    requires { Room dir.old slots.old arena.old line.old key.old value.old old.old out.old }
-    ensures { AllRead result dir.new slots.new arena.new line.new key.new value.new old.new out.new }
+    requires { Room b.old.dir.now b.old.slots.now b.old.arena.now line.old b.old.key.now b.old.value.now b.old.found.now b.old.out.now }
+    ensures read { AllRead result b.new.dir.now b.new.slots.now b.new.arena.now line.new b.new.key.now b.new.value.now b.new.found.now b.new.out.now }
+    ensures same { SameBuffers b.old b.new }
 {
     let mut c = Carried {
         session: closed(),
         held: 0,
-        more: true,
-        failed: false,
+        input: Input::More,
     };
-    let mut turns = 0;
-    while goes_on(c, turns, usize::MAX) {
-        c = answer_some(
-            c, dir, slots, arena, input, line, key, value, old, out, reader, writer,
-        );
-        turns += 1;
+    for turns in 0..usize::MAX {
+        if !c.input.is_more() {
+            return Reads { carried: c, turns };
+        }
+        c = answer_some(c, b, input, line, reader, writer);
     }
     Reads {
         carried: c,
-        turns: turns,
+        turns: usize::MAX,
     }
 }
 
 // All of the input, then the last line.
 fn answer_all<R: Read, W: Write>(
-    dir: &mut [u32],
-    slots: &mut [u64],
-    arena: &mut [u8],
+    b: &mut Buffers<'_>,
     input: &mut [u8],
     line: &mut [u8],
-    key: &mut [u8],
-    value: &mut [u8],
-    old: &mut [u8],
-    out: &mut [u8],
     reader: &mut R,
     writer: &mut W,
 )
-    requires { Room dir.old slots.old arena.old line.old key.old value.old old.old out.old }
+    requires { Room b.old.dir.now b.old.slots.now b.old.arena.now line.old b.old.key.now b.old.value.now b.old.found.now b.old.out.now }
+    ensures same { SameBuffers b.old b.new }
 {
-    let r = answer_reads(
-        dir, slots, arena, input, line, key, value, old, out, reader, writer,
-    );
-    let c = r.carried;
-    answer_last(c, dir, slots, arena, line, key, value, old, out, writer);
+    let r = answer_reads(b, input, line, reader, writer);
+    answer_last(r.carried, b, line, writer);
 }
 
 fn main(rt: HostRuntime) {
@@ -297,18 +250,21 @@ fn main(rt: HostRuntime) {
     let mut line = [0u8; LINE_LENGTH];
     let mut key = [0u8; PART_LENGTH];
     let mut value = [0u8; PART_LENGTH];
-    let mut old = [0u8; OLD_LENGTH];
+    let mut found = [0u8; FOUND_LENGTH];
     let mut out = [0u8; OUTPUT_LENGTH];
+    let mut b = Buffers {
+        dir: &mut dir,
+        slots: &mut slots,
+        arena: &mut arena,
+        key: &mut key,
+        value: &mut value,
+        found: &mut found,
+        out: &mut out,
+    };
     answer_all(
-        &mut dir,
-        &mut slots,
-        &mut arena,
+        &mut b,
         &mut input,
         &mut line,
-        &mut key,
-        &mut value,
-        &mut old,
-        &mut out,
         &mut rt.stdin(),
         &mut rt.stdout(),
     );

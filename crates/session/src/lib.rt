@@ -1,4 +1,7 @@
 // A run of the script program: which index there is, if any, and what each line does.
+// The functions here take the buffers one by one: a struct of them was tried, and no proof closed of `&mut b.dir[..n]` beside another field of `b`,
+// nor of two fields lent to read. From `take` on they travel together, as `Buffers`. They are lent, since a `Vec` or a `String` could run out of
+// memory, and an answer can't fail.
 #![tactic(auto)]
 
 ghost use Rattle.std.specs.Prelude.{Some, length, ◌+◌, ◌≡◌, ◌≤◌};
@@ -10,6 +13,7 @@ ghost use Rattle.session.specs.Session.{ReplyAsked, ReplyMade, no_index};
 ghost use Rattle.session.specs.Turns.{Idle, NewIdle, above, line_turn, new_turn};
 
 use answers::{Answer, write};
+use changes::Changed;
 use layout::Header;
 use lines::{Line, Sizes, parse};
 use model::Refusal;
@@ -19,7 +23,7 @@ use tree_remove::remove;
 
 pub mod take;
 
-// The program's own ceilings.
+/// The program's own ceilings.
 pub const FANOUT_CEILING: usize = 64;
 
 pub const POOL_CEILING: usize = 64;
@@ -40,7 +44,20 @@ pub struct Open {
     pub arena: usize,
 }
 
-// A session and the place behind what was written.
+/// The buffers that a line is answered in: of `dir`, `slots` and `arena` an index has the fronts, `key` and `value` are for what the line says, `found`
+/// is for an old value or a found key, and `out` for the answer.
+#[derive(Drop)]
+pub struct Buffers<'a> {
+    pub dir: &'a mut [u32],
+    pub slots: &'a mut [u64],
+    pub arena: &'a mut [u8],
+    pub key: &'a mut [u8],
+    pub value: &'a mut [u8],
+    pub found: &'a mut [u8],
+    pub out: &'a mut [u8],
+}
+
+/// A session and the place behind what was written.
 #[derive(Debug, Clone, Copy, PartialEq, Eq)]
 pub struct Replied {
     pub session: Session,
@@ -54,7 +71,7 @@ struct Served {
     pub at: usize,
 }
 
-// Before the first accepted `new`.
+/// Before the first accepted `new`.
 pub fn closed() -> Session
     ensures { result ≡ no_index }
 {
@@ -73,16 +90,11 @@ fn opened(header: Header, pool: usize, arena: usize) -> Session
     }
 }
 
+#[tactic(auto, using(crate::specs::ServeLaws::above_fanout, crate::specs::ServeLaws::above_pool, crate::specs::ServeLaws::above_arena))]
 fn above_ceiling(n: Sizes) -> bool
     ensures { result ≡ above n.fanout n.pool n.arena }
 {
-    if FANOUT_CEILING < n.fanout {
-        return true;
-    }
-    if POOL_CEILING < n.pool {
-        return true;
-    }
-    ARENA_CEILING < n.arena
+    FANOUT_CEILING < n.fanout || POOL_CEILING < n.pool || ARENA_CEILING < n.arena
 }
 
 // `new`: refused, it leaves the index as it was.
@@ -121,14 +133,19 @@ fn start_afresh(
 }
 
 // What a changing call handed back.
-fn write_change(x: Result<Option<usize>, Refusal>, old: &[u8], out: &mut [u8], at: usize) -> usize
-    requires { ChangeAsked x old.now out.old at }
-    ensures { Wrote out.old out.new at (old_said x old.now) result }
+fn write_change(c: Changed, old: &[u8], out: &mut [u8], at: usize) -> Served
+    requires { ChangeAsked c.old old.now out.old at }
+    ensures header { result.header ≡ c.header }
+    ensures wrote { Wrote out.old out.new at (old_said c.old old.now) result.at }
 {
-    match x {
+    let at = match c.old {
         Ok(Some(n)) => write(out, at, Answer::Old(&old[..n])),
         Ok(None) => write(out, at, Answer::Nothing),
         Err(r) => refuse(r, out, at),
+    };
+    Served {
+        header: c.header,
+        at,
     }
 }
 
@@ -147,11 +164,8 @@ fn reply_put(
     requires { ServeAsked h dir.old slots.old arena.old old.old out.old at }
     ensures { ServedBy (some (puts key.now value.now)) h dir.old slots.old arena.old out.old at result dir.new slots.new arena.new out.new }
 {
-    let r = insert(h, dir, slots, arena, key, value, old);
-    Served {
-        header: r.header,
-        at: write_change(r.old, old, out, at),
-    }
+    let c = insert(h, dir, slots, arena, key, value, old);
+    write_change(c, old, out, at)
 }
 
 // `del`
@@ -168,11 +182,8 @@ fn reply_del(
     requires { ServeAsked h dir.old slots.old arena.old old.old out.old at }
     ensures { ServedBy (some (dels key.now)) h dir.old slots.old arena.old out.old at result dir.new slots.new arena.new out.new }
 {
-    let r = remove(h, dir, slots, arena, key, old);
-    Served {
-        header: r.header,
-        at: write_change(r.old, old, out, at),
-    }
+    let c = remove(h, dir, slots, arena, key, old);
+    write_change(c, old, out, at)
 }
 
 // A line other than `new`, on an index.

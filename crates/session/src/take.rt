@@ -1,16 +1,17 @@
 // The lines of a piece of input, each answered as soon as it is whole.
 ghost use Rattle.std.specs.Prelude.{◌+◌, ◌≤◌, ◌<◌};
 ghost use Rattle.lists.specs.Exact.{Exact};
+ghost use Rattle.session.specs.Same.{SameBuffers};
 ghost use Rattle.session.specs.Session.{answer_limit};
 ghost use Rattle.session.specs.Takes.{LineAsked, LineTaken, LinesAsked, LinesTaken};
 
-use crate::{Session, reply};
+use crate::{Buffers, Session, reply};
 use feed::gather;
 
-// The most that one line's answer takes: 64 leaf lines with two keys each.
+/// The most that one line's answer takes: 64 leaf lines with two keys each.
 pub const ANSWER_LIMIT: usize = 133120;
 
-// A session, the place behind what was written, how far the piece of input was taken, and how many bytes of a line are held.
+/// A session, the place behind what was written, how far the piece of input was taken, and how many bytes of a line are held.
 #[derive(Debug, Clone, Copy, PartialEq, Eq)]
 pub struct Fed {
     pub session: Session,
@@ -20,20 +21,10 @@ pub struct Fed {
 }
 
 // One line's bytes, or as many as the piece has; where it ends there, it is answered.
-fn take_line(
-    f: Fed,
-    dir: &mut [u32],
-    slots: &mut [u64],
-    arena: &mut [u8],
-    piece: &[u8],
-    line: &mut [u8],
-    key: &mut [u8],
-    value: &mut [u8],
-    old: &mut [u8],
-    out: &mut [u8],
-) -> Fed
-    requires { LineAsked f dir.old slots.old arena.old piece.now line.old key.old value.old old.old out.old }
-    ensures { LineTaken f dir.old slots.old arena.old piece.now line.old out.old result dir.new slots.new arena.new line.new out.new }
+fn take_line(f: Fed, b: &mut Buffers<'_>, piece: &[u8], line: &mut [u8]) -> Fed
+    requires { LineAsked f b.old.dir.now b.old.slots.now b.old.arena.now piece.now line.old b.old.key.now b.old.value.now b.old.found.now b.old.out.now }
+    ensures taken { LineTaken f b.old.dir.now b.old.slots.now b.old.arena.now piece.now line.old b.old.out.now result b.new.dir.now b.new.slots.now b.new.arena.now line.new b.new.out.now }
+    ensures same { SameBuffers b.old b.new }
 {
     let g = gather(piece, f.next, line, f.held);
     let Some(next) = g.next else {
@@ -45,14 +36,14 @@ fn take_line(
     };
     let r = reply(
         f.session,
-        dir,
-        slots,
-        arena,
+        b.dir,
+        b.slots,
+        b.arena,
         &line[..g.held],
-        key,
-        value,
-        old,
-        out,
+        b.key,
+        b.value,
+        b.found,
+        b.out,
         f.at,
     );
     Fed {
@@ -64,35 +55,24 @@ fn take_line(
 }
 
 // There is more of the piece, and the output has room for an answer.
+#[tactic(auto, using(crate::specs::TakeLaws::goes_end, crate::specs::TakeLaws::goes_room))]
 fn goes_on(f: Fed, length: usize, room: usize) -> bool
     requires { f.at ≤ room }
     ensures { Exact result ((f.next < length) × (f.at + answer_limit ≤ room)) }
 {
-    if length <= f.next {
-        return false;
-    }
-    ANSWER_LIMIT <= room - f.at
+    f.next < length && ANSWER_LIMIT <= room - f.at
 }
 
-// The lines of a piece of input, as long as the output has room for an answer.
-pub fn take_lines(
-    f: Fed,
-    dir: &mut [u32],
-    slots: &mut [u64],
-    arena: &mut [u8],
-    piece: &[u8],
-    line: &mut [u8],
-    key: &mut [u8],
-    value: &mut [u8],
-    old: &mut [u8],
-    out: &mut [u8],
-) -> Fed
-    requires { LinesAsked f dir.old slots.old arena.old piece.now line.old key.old value.old old.old out.old }
-    ensures { LinesTaken f dir.old slots.old arena.old piece.now line.old out.old result dir.new slots.new arena.new line.new out.new }
+/// The lines of a piece of input, as long as the output has room for an answer.
+pub fn take_lines(f: Fed, b: &mut Buffers<'_>, piece: &[u8], line: &mut [u8]) -> Fed
+    requires { LinesAsked f b.old.dir.now b.old.slots.now b.old.arena.now piece.now line.old b.old.key.now b.old.value.now b.old.found.now b.old.out.now }
+    ensures taken { LinesTaken f b.old.dir.now b.old.slots.now b.old.arena.now piece.now line.old b.old.out.now result b.new.dir.now b.new.slots.now b.new.arena.now line.new b.new.out.now }
+    ensures same { SameBuffers b.old b.new }
 {
     let mut e = f;
-    while goes_on(e, piece.len(), out.len()) {
-        e = take_line(e, dir, slots, arena, piece, line, key, value, old, out);
+    // (A `while`: it goes on by what is left of the piece and of the output, and counts nothing.)
+    while goes_on(e, piece.len(), b.out.len()) {
+        e = take_line(e, b, piece, line);
     }
     e
 }

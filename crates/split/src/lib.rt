@@ -1,5 +1,6 @@
 // A full leaf split as planned. F pairs are never stored: the stored pairs are cut where the plan says, and the new pair is put into its half
 // afterwards. What is left in between is an index too.
+// On parts, not on a struct with the index as its fact: that fact must hold after each write, so what writes twice would stay on parts under it.
 #![tactic(auto)]
 
 ghost use Rattle.split.specs.Splits.{CanCutStored, CanShortenHalf, CanSplit, CanWriteSeparator, CutStored, SeparatorWritten, ShortenedHalf, SplitLeaf};

@@ -1,4 +1,5 @@
 // `insert` under its entry point: judged first, and only what is accepted is written.
+// On parts, as what it calls: a struct with the index as its fact is plainer here, but each changing function that it calls would then stand twice.
 ghost use Rattle.changes.specs.Outcomes.{lent};
 ghost use Rattle.layout.specs.Presumed.{Index};
 ghost use Rattle.tree_insert.specs.Outcomes.{CanFit, CanReplaceOld, InsertInner, ReplacedOld, SplitIfFull};

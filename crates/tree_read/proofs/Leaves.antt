@@ -6,7 +6,9 @@ use Prim.Native.Nat.{◌+◌, ◌<◌, ◌^◌, ◌≤◌, ℕ}
 use mathlib.Core.List.{List}
 use mathlib.Core.Path.{ap, ◌∙◌, ◌≡◌, refl, sym}
 use native.Mathlib.Omega.{arith}
+use lib.Dec.{ltb}
 use lib.ListN.{drop}
+use Rattle.lists.specs.Exact.{Exact, exact_ltb}
 use Rattle.layout.specs.Buffers.{low_at, slot_words, suffix_at}
 use Rattle.leaf.specs.KeyLaws.{key_part_lem}
 use Rattle.leaf.specs.Keys.{PrefixOf, UpperAt, key_at, key_part, upper_at, upper_part}
@@ -17,6 +19,11 @@ use Rattle.tree_read.specs.CheckCode.{LeafAt, LeafRest, LeafSum, PairsOkAt, Pair
 use Rattle.tree_read.specs.declared.check.Sum.{Sum}
 use Rattle.words.specs.Words.{first_slot, word_count, word_leaf}
 use Rattle.words.specs.declared.LowKey.{LowKey}
+
+-- not_empty
+
+pub empty_inner : {upper : Option LowKey} {u : LowKey} (count : ℕ) → upper ≡ Some u → (arena : List ℕ) → Exact (ltb 0 count) (NotEmpty (upper_at arena upper) count)
+empty_inner count e arena = rw e (exact_ltb 0 count)
 
 -- the upper key behind the prefix length
 

@@ -1,4 +1,5 @@
 // `remove` under its entry point: it presumes W less its clause on empty leaves.
+// On parts, as what it calls: a struct with the index as its fact is plainer here, but each changing function that it calls would then stand twice.
 ghost use Rattle.changes.specs.Outcomes.{lent};
 ghost use Rattle.layout.specs.Presumed.{Index};
 ghost use Rattle.order.specs.Bytes.{Bytes};

@@ -4,8 +4,5 @@ use Rattle.answers.specs.AnswerLaws.{wrote_more}
 use native.Mathlib.Omega.{arith}
 use Rattle.answers.proofs.spaced_bytes.Goals as goal
 
-pub write_bytes-requires : goal.write_bytes-requires
-write_bytes-requires c = omega (arith, c.write_byte-e.ensures.behind, c.write_byte-e.ensures.long, c.requires)
-
 pub returns : goal.returns
 returns c = wrote_more (omega (arith, c.requires)) c.write_byte-e.ensures c.write_bytes.ensures

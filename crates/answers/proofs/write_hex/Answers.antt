@@ -12,9 +12,6 @@ use Rattle.answers.proofs.write_hex.Goals as goal
 pub loop-i-init : goal.loop-i-init
 loop-i-init c = (search rules, fill_start _ _ _ _ (omega arith))
 
-pub overflow_mul-j : goal.overflow_mul-j
-overflow_mul-j c = omega (arith, hex_length c.args.s.now, c.requires)
-
 pub overflow_add-j : goal.overflow_add-j
 overflow_add-j c = omega (arith, hex_length c.args.s.now, c.requires)
 
@@ -29,9 +26,6 @@ bounds-out-j-in-loop-i c = simp length-set (omega (arith, hex_length c.args.s.no
 
 pub loop-i-preserved : goal.loop-i-preserved
 loop-i-preserved c = (simp length-set c.loop-i.invariant.0, hex_turn _ _ _ _ c.loop-i.i _ _ _ _ _ _ c.requires (omega arith) refl refl refl refl c.hex_digit.ensures c.hex_digit-in-loop-i.ensures c.loop-i.invariant.1)
-
-pub overflow_mul-result : goal.overflow_mul-result
-overflow_mul-result c = omega (arith, hex_length c.args.s.now, c.requires)
 
 pub overflow_add-result : goal.overflow_add-result
 overflow_add-result c = omega (arith, hex_length c.args.s.now, c.requires)

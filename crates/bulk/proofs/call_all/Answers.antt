@@ -1,6 +1,5 @@
 use mathlib.Core.Path.{refl}
 use native.Mathlib.Omega.{arith}
-use borrow.Author.Rules.{rules}
 use Rattle.bulk.specs.BulkLaws.{along_done, along_start, along_turn, count_fits}
 use Rattle.bulk.specs.JobLaws.{key_below}
 use Rattle.bulk.specs.RowLaws.{calls_stand}
@@ -8,9 +7,6 @@ use Rattle.bulk.proofs.call_all.Goals as goal
 
 pub loop-i-init : goal.loop-i-init
 loop-i-init c = along_start
-
-pub key_at-key-requires : goal.key_at-key-requires
-key_at-key-requires c = (search rules, c.requires.1)
 
 pub call_one-c-requires : goal.call_one-c-requires
 call_one-c-requires c = (calls_stand c.args.order c.args.n c.args.kind c.requires.0 c.loop-i.invariant.calls, omega (arith, c.key_at-key.ensures, key_below c.args.order c.loop-i.i c.args.n c.loop-i-test.true), omega arith)
@@ -20,15 +16,6 @@ count-t-requires c = count_fits c.loop-i-test.true c.requires.1 c.loop-i.invaria
 
 pub loop-i-preserved : goal.loop-i-preserved
 loop-i-preserved c = along_turn refl c.loop-i.invariant (rw c.key_at-key.ensures at c.call_one-c.ensures) c.count-t.ensures c.call_one-c.auto.dir c.call_one-c.auto.slots c.call_one-c.auto.arena
-
-pub shape_of-dir : goal.shape_of-dir
-shape_of-dir c = c.loop-i.invariant.dir_kept
-
-pub shape_of-slots : goal.shape_of-slots
-shape_of-slots c = c.loop-i.invariant.slots_kept
-
-pub shape_of-arena : goal.shape_of-arena
-shape_of-arena c = c.loop-i.invariant.arena_kept
 
 pub returns : goal.returns
 returns c = along_done (omega arith) c.loop-i.invariant

@@ -1,6 +1,6 @@
 -- `run` makes both rows: the test of W gives the index that the first call presumes, and each row leaves one for the next.
 -- Assumes nothing.
-use mathlib.Core.Path.{◌∙◌, refl}
+use mathlib.Core.Path.{refl}
 use Rattle.layout.specs.Presumed.{entry_damaged, entry_held, w_index}
 use Rattle.lists.specs.Exact.{refuted}
 use Rattle.bulk.specs.Bulk.{store}
@@ -17,12 +17,6 @@ call_all-full-requires g c = (w_index (c.holds_index.ensures.sound c.if-not-hold
 
 pub call_all-left-requires : goal.call_all-left-requires
 call_all-left-requires g c = (inserts_stand c.args.j.inserts c.call_count-inserts.result (w_index (c.holds_index.ensures.sound c.if-not-holds_index.false)) c.call_all-full.ensures, calls_most c.args.j.deletes c.call_count-deletes.ensures c.requires)
-
-pub shape_of-dir : goal.shape_of-dir
-shape_of-dir g c = c.call_all-left.auto.dir ∙ c.call_all-full.auto.dir ∙ c.create-r.auto.dir
-
-pub shape_of-slots : goal.shape_of-slots
-shape_of-slots g c = c.call_all-left.auto.slots ∙ c.call_all-full.auto.slots ∙ c.create-r.auto.slots
 
 pub returns : goal.returns
 returns g c = record { made = c.create-r.result; fresh = store c.create-r.new.dir c.create-r.new.slots _; created = c.create-r.ensures; same_arena = refl; tested = entry_held (c.holds_index.ensures.sound c.if-not-holds_index.false) (λ ns p. rows c.call_count-inserts.ensures c.call_all-full.ensures c.call_count-deletes.ensures c.call_all-left.ensures) }

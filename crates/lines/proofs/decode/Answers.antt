@@ -17,13 +17,6 @@ unwrap-high-requires c = value_some _ c.hex_value.ensures (digit_read _ c.requir
 pub unwrap-low-requires : goal.unwrap-low-requires
 unwrap-low-requires c = value_some _ c.hex_value-in-loop-i.ensures (digit_read _ c.requires.0 (omega arith))
 
-pub overflow_mul-out : goal.overflow_mul-out
-overflow_mul-out c = let high = rw c.unwrap-high.ensures at c.hex_value.ensures in omega arith
-
-pub overflow_add-out : goal.overflow_add-out
-overflow_add-out c =
-    let high = rw c.unwrap-high.ensures at c.hex_value.ensures in let low = rw c.unwrap-low.ensures at c.hex_value-in-loop-i.ensures in omega arith
-
 pub loop-i-preserved : goal.loop-i-preserved
 loop-i-preserved c =
     let high = rw c.unwrap-high.ensures at c.hex_value.ensures in

@@ -4,30 +4,17 @@ use mathlib.Core.Path.{refl}
 use Rattle.lists.specs.Exact.{refuted}
 use Rattle.lines.specs.CutLaws.{cut_whole, equal_words}
 use Rattle.lines.specs.Grammar.{new_word, put_word}
-use Rattle.lines.specs.ParseLaws.{cut_joined, leaves_said, alone, of_word, one_key, tail_short}
-use native.Mathlib.Omega.{arith}
+use Rattle.lines.specs.ParseLaws.{cut_joined, alone, of_word}
 use Rattle.lines.proofs.parse.Goals as goal
-
-pub returns-then-eq : goal.returns-then-eq
-returns-then-eq c = leaves_said _ _ ((equal_words c.eq.ensures c.as_slice.ensures).sound c.if-eq.true) (omega arith)
 
 pub returns-else-eq : goal.returns-else-eq
 returns-else-eq c = alone _ _ (cut_whole c.word_end-e.ensures c.if-e-line.true) (refuted c.if-eq.false (equal_words c.eq.ensures c.as_slice.ensures))
 
-pub parse_put-requires : goal.parse_put-requires
-parse_put-requires c = (tail_short (cut_joined c.word_end-e.ensures c.if-e-line.false) put_word ((equal_words c.eq-2.ensures c.as_slice-2.ensures).sound c.if-eq-2.true) refl (omega arith), c.requires.0, c.requires.1)
-
 pub returns-then-eq-2 : goal.returns-then-eq-2
 returns-then-eq-2 c = of_word (cut_joined c.word_end-e.ensures c.if-e-line.false) _ _ _ _ put_word c.parse_put.result ((equal_words c.eq-2.ensures c.as_slice-2.ensures).sound c.if-eq-2.true) c.parse_put.ensures
 
-pub parse_new-requires : goal.parse_new-requires
-parse_new-requires c = tail_short (cut_joined c.word_end-e.ensures c.if-e-line.false) new_word ((equal_words c.eq-3.ensures c.as_slice-3.ensures).sound c.if-eq-3.true) refl (omega arith)
-
 pub returns-then-eq-3 : goal.returns-then-eq-3
 returns-then-eq-3 c = of_word (cut_joined c.word_end-e.ensures c.if-e-line.false) _ _ _ _ new_word c.parse_new.result ((equal_words c.eq-3.ensures c.as_slice-3.ensures).sound c.if-eq-3.true) (c.parse_new.ensures _ _)
-
-pub parse_key-requires : goal.parse_key-requires
-parse_key-requires c = (one_key (cut_joined c.word_end-e.ensures c.if-e-line.false) (refuted c.if-eq-2.false (equal_words c.eq-2.ensures c.as_slice-2.ensures)) (refuted c.if-eq-3.false (equal_words c.eq-3.ensures c.as_slice-3.ensures)) (omega arith), c.requires.0)
 
 pub returns : goal.returns
 returns c = of_word (cut_joined c.word_end-e.ensures c.if-e-line.false) _ _ _ _ _ c.parse_key.result refl (c.parse_key.ensures _)

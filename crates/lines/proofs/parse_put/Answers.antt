@@ -13,11 +13,5 @@ returns-then-not-is_bytes c = put_first (cut_joined c.word_end-e.ensures c.if-e-
 pub returns-then-not-is_bytes-2 : goal.returns-then-not-is_bytes-2
 returns-then-not-is_bytes-2 c = put_second (cut_joined c.word_end-e.ensures c.if-e-words.false) (refuted c.if-not-is_bytes-2.true c.is_bytes-2.ensures) _ _
 
-pub decode-n-requires : goal.decode-n-requires
-decode-n-requires c = ((c.is_bytes.ensures.sound c.if-not-is_bytes.false), first_half (cut_joined c.word_end-e.ensures c.if-e-words.false) _ c.requires.0 c.requires.1)
-
-pub decode-m-requires : goal.decode-m-requires
-decode-m-requires c = ((c.is_bytes-2.ensures.sound c.if-not-is_bytes-2.false), second_half (cut_joined c.word_end-e.ensures c.if-e-words.false) _ c.requires.0 c.requires.2)
-
 pub returns : goal.returns
 returns c = put_said (cut_joined c.word_end-e.ensures c.if-e-words.false) c.requires.0 (taken (c.is_bytes.ensures.sound c.if-not-is_bytes.false) (first_half (cut_joined c.word_end-e.ensures c.if-e-words.false) _ c.requires.0 c.requires.1) c.decode-n.ensures) (taken (c.is_bytes-2.ensures.sound c.if-not-is_bytes-2.false) (second_half (cut_joined c.word_end-e.ensures c.if-e-words.false) _ c.requires.0 c.requires.2) c.decode-m.ensures)

@@ -3,21 +3,11 @@
 use lib.ListN.{length}
 use Rattle.std.proofs.Common.{Ok, ap, ◌∙◌}
 use Rattle.replies.specs.Replies.{next_said}
-use Rattle.replies.specs.ReplyLaws.{asked_room, next_end_said, next_found, next_inside, next_pair_said, next_refused_said, replied}
-use native.Mathlib.Omega.{arith}
+use Rattle.replies.specs.ReplyLaws.{asked_room, next_end_said, next_found, next_pair_said, next_refused_said, replied}
 use Rattle.replies.proofs.reply_next.Goals as goal
-
-pub slice_bounds-write-end : goal.slice_bounds-write-end
-slice_bounds-write-end c = omega (arith, next_inside c.args.key.now c.get_gt.ensures (c.in-Ok-Some.is ∙ ap Ok c.in-Ok-Some.field-0-is) c.requires.index)
 
 pub write-requires : goal.write-requires
 write-requires c = (tt, asked_room c.requires (next_pair_said c.args.key.now c.get_gt.ensures (c.in-Ok-Some.is ∙ ap Ok c.in-Ok-Some.field-0-is) c.range_value-value.ensures))
-
-pub write-requires-in-Ok-None : goal.write-requires-in-Ok-None
-write-requires-in-Ok-None c = (tt, asked_room c.requires (next_end_said c.args.key.now c.get_gt.ensures (c.in-Ok-None.is ∙ ap Ok c.in-Ok-None.field-0-is)))
-
-pub refuse-requires : goal.refuse-requires
-refuse-requires c = asked_room c.requires (next_refused_said c.args.key.now c.get_gt.ensures c.in-Err.is)
 
 pub returns-in-Ok-Some : goal.returns-in-Ok-Some
 returns-in-Ok-Some c = record { said = replied (next_said c.args.key.now (length c.args.found.now)) (next_pair_said c.args.key.now c.get_gt.ensures (c.in-Ok-Some.is ∙ ap Ok c.in-Ok-Some.field-0-is) c.range_value-value.ensures) c.write.ensures; found_is = next_found c.args.key.now c.get_gt.ensures }

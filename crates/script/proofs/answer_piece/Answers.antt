@@ -1,49 +1,29 @@
 -- `answer_piece` meets its contract: the piece was fed up to `next`.
 -- Assumes nothing.
-use Rattle.lists.specs.Exact.{refuted}
-use Rattle.script.specs.ScriptLaws.{along_asked, along_done, along_further, along_start, along_turn, along_written, rooms_lengths}
+use mathlib.Core.Path.{sym, ◌∙◌}
+use Rattle.session.specs.SameLaws.{same_more, same_self}
+use Rattle.script.specs.ScriptLaws.{along_asked, along_done, along_further, along_start, along_turn, along_written, same_lengths, true_false}
 use borrow.Author.Rules.{rules}
 use native.Mathlib.Omega.{arith}
 use Rattle.script.proofs.answer_piece.Goals as goal
 
-pub loop-b-init : goal.loop-b-init
-loop-b-init g c = along_start _ c.requires
+pub loop-next-init : goal.loop-next-init
+loop-next-init g c = (along_start _ c.requires, same_self _)
 
 pub take_lines-f-requires : goal.take_lines-f-requires
-take_lines-f-requires g c = along_asked c.requires c.loop-b.invariant c.begin-b.ensures
+take_lines-f-requires g c = along_asked c.requires c.loop-next.invariant.0 c.begin.ensures
 
 pub write_out-e-requires : goal.write_out-e-requires
-write_out-e-requires g c = along_written c.requires c.loop-b.invariant c.begin-b.ensures c.take_lines-f.ensures (c.goes_on.ensures.sound c.loop-b-test.true).1
+write_out-e-requires g c = along_written c.requires c.loop-next.invariant.0 c.begin.ensures c.take_lines-f.ensures.taken c.loop-next-test.true
 
-pub loop-b-smaller : goal.loop-b-smaller
-loop-b-smaller g c = omega (arith, along_further c.loop-b.invariant c.begin-b.ensures c.take_lines-f.ensures (c.goes_on.ensures.sound c.loop-b-test.true).1, (c.goes_on.ensures.sound c.loop-b-test.true).1)
+pub loop-next-smaller : goal.loop-next-smaller
+loop-next-smaller g c = omega (arith, along_further c.loop-next.invariant.0 c.begin.ensures c.take_lines-f.ensures.taken c.loop-next-test.true, c.loop-next-test.true)
 
-pub loop-b-preserved : goal.loop-b-preserved
-loop-b-preserved g c = along_turn c.loop-b.invariant c.begin-b.ensures c.take_lines-f.ensures c.write_out-e.ensures (record { dir_kept = search rules; slots_kept = search rules; arena_kept = search rules; line_kept = search rules; key_kept = search rules; value_kept = search rules; old_kept = search rules; out_kept = search rules })
+pub loop-next-preserved : goal.loop-next-preserved
+loop-next-preserved g c = (along_turn c.loop-next.invariant.0 c.begin.ensures c.take_lines-f.ensures.taken c.write_out-e.ensures (same_lengths c.take_lines-f.ensures.same (search rules)), same_more c.loop-next.invariant.1 c.take_lines-f.ensures.same)
 
-pub shape_of-dir : goal.shape_of-dir
-shape_of-dir g c = (rooms_lengths c.requires.room c.loop-b.invariant.room).dir_kept
+pub returns-else-is_more-clause-answered : goal.returns-else-is_more-clause-answered
+returns-else-is_more-clause-answered g c = along_done c.loop-next.invariant.0 (λ p. true_false (sym p.0 ∙ sym c.is_more.ensures ∙ c.if-is_more.false))
 
-pub shape_of-slots : goal.shape_of-slots
-shape_of-slots g c = (rooms_lengths c.requires.room c.loop-b.invariant.room).slots_kept
-
-pub shape_of-arena : goal.shape_of-arena
-shape_of-arena g c = (rooms_lengths c.requires.room c.loop-b.invariant.room).arena_kept
-
-pub shape_of-line : goal.shape_of-line
-shape_of-line g c = (rooms_lengths c.requires.room c.loop-b.invariant.room).line_kept
-
-pub shape_of-key : goal.shape_of-key
-shape_of-key g c = (rooms_lengths c.requires.room c.loop-b.invariant.room).key_kept
-
-pub shape_of-value : goal.shape_of-value
-shape_of-value g c = (rooms_lengths c.requires.room c.loop-b.invariant.room).value_kept
-
-pub shape_of-old : goal.shape_of-old
-shape_of-old g c = (rooms_lengths c.requires.room c.loop-b.invariant.room).old_kept
-
-pub shape_of-out : goal.shape_of-out
-shape_of-out g c = (rooms_lengths c.requires.room c.loop-b.invariant.room).out_kept
-
-pub returns : goal.returns
-returns g c = along_done c.loop-b.invariant (refuted c.loop-b-test.false c.goes_on.ensures)
+pub returns-after-loop-next-clause-answered : goal.returns-after-loop-next-clause-answered
+returns-after-loop-next-clause-answered g c = along_done c.loop-next.invariant.0 (λ p. omega (arith, p.1, c.loop-next-test.false))

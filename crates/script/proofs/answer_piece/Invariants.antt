@@ -1,12 +1,14 @@
 use Prim.Native.Nat.{◌-◌}
 use lib.ListN.{length}
+use Rattle.session.specs.Same.{SameBuffers}
 use Rattle.script.specs.ScriptLaws.{Along}
 use Rattle.script.proofs.answer_piece.Given as goal
 
-abbrev pub invariant-loop-b : goal.invariant-loop-b
-invariant-loop-b g l =
-    Along l.initial.e l.initial.dir l.initial.slots l.initial.arena l.initial.line l.piece l.e l.next l.dir l.slots l.arena l.line l.key l.value l.old l.out
+abbrev pub invariant-loop-next : goal.invariant-loop-next
+invariant-loop-next g l =
+    Along l.initial.e l.initial.b.dir.now l.initial.b.slots.now l.initial.b.arena.now l.initial.line l.piece l.e l.next l.b.dir.now l.b.slots.now l.b.arena.now l.line l.b.key.now l.b.value.now l.b.found.now l.b.out.now
+    × SameBuffers l.initial.b l.b
 
-abbrev pub decreases-loop-b : goal.decreases-loop-b
-decreases-loop-b g l =
+abbrev pub decreases-loop-next : goal.decreases-loop-next
+decreases-loop-next g l =
     length l.piece - l.next

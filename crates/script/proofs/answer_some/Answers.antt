@@ -3,11 +3,5 @@
 use Rattle.script.specs.ScriptLaws.{stepped_by}
 use Rattle.script.proofs.answer_some.Goals as goal
 
-pub answer_got-requires : goal.answer_got-requires
-answer_got-requires g c = c.requires
-
-pub shape_of-input : goal.shape_of-input
-shape_of-input g c = c.read-got.auto.buf
-
 pub returns : goal.returns
-returns g c = stepped_by c.read-got.result _ c.read-got.auto.buf c.read-got.ensures.bound c.answer_got.ensures
+returns g c = record { stepped = stepped_by c.read-got.result _ c.read-got.auto.buf c.read-got.ensures.bound c.answer_got.ensures.got; same = c.answer_got.ensures.same }

@@ -4,7 +4,7 @@ use mathlib.Core.Path.{refl}
 use Rattle.std.proofs.Common.{None, Some}
 use Rattle.lines.specs.declared.Line.TheVariants.{New}
 use Rattle.session.proofs.Keys.{ordinary_key}
-use Rattle.session.specs.LineLaws.{bad_line, closed_line, new_line, open_line, reply_bad_asked, reply_made, reply_new_asked, reply_open_asked}
+use Rattle.session.specs.LineLaws.{bad_line, closed_line, new_line, open_line, reply_bad_asked, reply_made}
 use Rattle.session.proofs.reply.Goals as goal
 
 pub reply_bad-requires : goal.reply_bad-requires
@@ -12,9 +12,6 @@ reply_bad-requires c = reply_bad_asked c.requires
 
 pub returns-in_default : goal.returns-in_default
 returns-in_default c = reply_made c.requires c.args.line.now c.parse.new.key c.parse.new.value None c.in_default.ensures refl refl refl (bad_line c.reply_bad.ensures c.parse.new.key c.parse.new.value)
-
-pub start_afresh-requires : goal.start_afresh-requires
-start_afresh-requires c = reply_new_asked c.requires
 
 pub returns-in-New : goal.returns-in-New
 returns-in-New c = reply_made c.requires c.args.line.now c.parse.new.key c.parse.new.value (Some (New c.in-New.n)) (rw c.in-New.is at c.in-Some.ensures) c.start_afresh.auto.dir c.start_afresh.auto.slots refl (new_line c.in-New.n c.parse.new.key c.parse.new.value c.start_afresh.ensures)
@@ -24,9 +21,6 @@ reply_bad-requires-in_default-index c = reply_bad_asked c.requires
 
 pub returns-in_default-index : goal.returns-in_default-index
 returns-in_default-index c = reply_made c.requires c.args.line.now c.parse.new.key c.parse.new.value (Some c.in-Some.said) c.in-Some.ensures refl refl refl (closed_line c.reply_bad-in_default-index.ensures c.in-Some.said c.parse.new.key c.parse.new.value (ordinary_key c.in-Some.said c.in_default-said.not-New) c.in_default-index.is)
-
-pub reply_open-requires : goal.reply_open-requires
-reply_open-requires c = reply_open_asked c.requires c.args.line.now c.parse.new.key c.parse.new.value c.in-Some.said c.in-Some.ensures (ordinary_key c.in-Some.said c.in_default-said.not-New) c.in-Some-index.is
 
 pub returns : goal.returns
 returns c = reply_made c.requires c.args.line.now c.parse.new.key c.parse.new.value (Some c.in-Some.said) c.in-Some.ensures c.reply_open.auto.dir c.reply_open.auto.slots c.reply_open.auto.arena (open_line c.in-Some-index.is c.reply_open.ensures)

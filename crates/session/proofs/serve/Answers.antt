@@ -1,38 +1,18 @@
 -- `serve` meets its contract.
 -- Assumes nothing.
 use lib.ListN.{take}
-use lib.Seq.{length-take-le}
-use mathlib.Core.Path.{sym}
-use Rattle.lines.specs.declared.Line.TheVariants.{Del, Get, Leaves, Next, Put}
-use Rattle.session.specs.ServeLaws.{del_within, get_asked, get_served, get_within, leaves_asked, leaves_served, next_asked, next_served, next_within, put-within, told_served}
+use Rattle.lines.specs.declared.Line.TheVariants.{Del, Get, Leaves, Next}
+use Rattle.session.specs.ServeLaws.{get_asked, get_served, leaves_asked, leaves_served, next_asked, next_served, told_served}
 use Rattle.session.proofs.serve.Goals as goal
-
-pub slice_bounds-reply_put-end : goal.slice_bounds-reply_put-end
-slice_bounds-reply_put-end c = sym (length-take-le _ _ (put-within c.requires c.in-Put.is).0)
-
-pub slice_bounds-reply_put-end-in-Put : goal.slice_bounds-reply_put-end-in-Put
-slice_bounds-reply_put-end-in-Put c = sym (length-take-le _ _ (put-within c.requires c.in-Put.is).1)
-
-pub slice_bounds-reply_get-end : goal.slice_bounds-reply_get-end
-slice_bounds-reply_get-end c = sym (length-take-le _ _ (get_within c.requires c.in-Get.is))
 
 pub reply_get-requires : goal.reply_get-requires
 reply_get-requires c = get_asked c.requires.asked (take c.in-Get.n c.args.key.now)
-
-pub slice_bounds-reply_next-end : goal.slice_bounds-reply_next-end
-slice_bounds-reply_next-end c = sym (length-take-le _ _ (next_within c.requires c.in-Next.is))
 
 pub reply_next-requires : goal.reply_next-requires
 reply_next-requires c = next_asked c.requires.asked (take c.in-Next.n c.args.key.now)
 
 pub reply_leaves-requires : goal.reply_leaves-requires
 reply_leaves-requires c = leaves_asked c.requires.asked
-
-pub slice_bounds-reply_del-end : goal.slice_bounds-reply_del-end
-slice_bounds-reply_del-end c = sym (length-take-le _ _ (del_within c.requires c.in-Del.is))
-
-pub returns-in-Put : goal.returns-in-Put
-returns-in-Put c = told_served c.args.line (Put c.in-Put.n c.in-Put.m) c.args.key.now c.args.value.now c.in-Put.is c.reply_put.ensures
 
 pub returns-in-Get : goal.returns-in-Get
 returns-in-Get c = told_served c.args.line (Get c.in-Get.n) c.args.key.now c.args.value.now c.in-Get.is (get_served (take c.in-Get.n c.args.key.now) c.reply_get.ensures)

@@ -1,35 +1,12 @@
 -- `start_afresh` meets its contract.
 -- Assumes nothing.
-use lib.Seq.{length-take-le}
 use mathlib.Core.Path.{◌∙◌, sym}
 use Rattle.session.specs.FrontLaws.{not_above}
-use Rattle.session.specs.NewLaws.{above_replied, kept_is, kept_replied, made_is, made_replied, new_asked, new_parts, refuse_asked}
-use native.Mathlib.Omega.{arith}
+use Rattle.session.specs.NewLaws.{kept_is, kept_replied, made_is, made_replied, new_asked, new_parts, refuse_asked}
 use Rattle.session.proofs.start_afresh.Goals as goal
 
 pub refuse-requires : goal.refuse-requires
 refuse-requires c = refuse_asked c.requires
-
-pub returns-then-above_ceiling : goal.returns-then-above_ceiling
-returns-then-above_ceiling c = above_replied c.args.s c.args.n.fanout c.args.n.pool c.args.n.arena (sym c.above_ceiling.ensures ∙ c.if-above_ceiling.true) c.refuse.ensures
-
-pub overflow_mul-words : goal.overflow_mul-words
-overflow_mul-words c = omega (arith, (new_parts c.requires c.above_ceiling.ensures c.if-above_ceiling.false).words_most)
-
-pub slice_bounds-reply_new-end : goal.slice_bounds-reply_new-end
-slice_bounds-reply_new-end c = (new_parts c.requires c.above_ceiling.ensures c.if-above_ceiling.false).pool_in
-
-pub slice_bounds-reply_new-end-2 : goal.slice_bounds-reply_new-end-2
-slice_bounds-reply_new-end-2 c = sym (length-take-le _ _ (new_parts c.requires c.above_ceiling.ensures c.if-above_ceiling.false).pool_in)
-
-pub slice_bounds-reply_new-end-3 : goal.slice_bounds-reply_new-end-3
-slice_bounds-reply_new-end-3 c = (new_parts c.requires c.above_ceiling.ensures c.if-above_ceiling.false).words_in
-
-pub slice_bounds-reply_new-end-4 : goal.slice_bounds-reply_new-end-4
-slice_bounds-reply_new-end-4 c = sym (length-take-le _ _ (new_parts c.requires c.above_ceiling.ensures c.if-above_ceiling.false).words_in)
-
-pub slice_bounds-reply_new-end-5 : goal.slice_bounds-reply_new-end-5
-slice_bounds-reply_new-end-5 c = sym (length-take-le _ _ (new_parts c.requires c.above_ceiling.ensures c.if-above_ceiling.false).arena_in)
 
 pub reply_new-r-requires : goal.reply_new-r-requires
 reply_new-r-requires c = new_asked c.requires c.args.n.fanout c.args.n.pool c.args.n.arena

@@ -1,6 +1,6 @@
 -- `get_value` meets its contract.
 -- Assumes nothing.
-use Rattle.tree_get.specs.ValueLaws.{value_at, value_inside, value_none, value_refused}
+use Rattle.tree_get.specs.ValueLaws.{value_at, value_inside}
 use Rattle.std.proofs.Common.{Ok, ap, ◌∙◌}
 use native.Mathlib.Omega.{arith}
 use Rattle.tree_get.proofs.get_value.Goals as goal
@@ -13,9 +13,3 @@ slice_bounds-result-end c = omega (arith, value_inside c.args.key.now c.get.ensu
 
 pub returns-in-Ok-Some : goal.returns-in-Ok-Some
 returns-in-Ok-Some c = value_at c.args.key.now c.get.ensures (c.in-Ok-Some.is ∙ ap Ok c.in-Ok-Some.field-0-is)
-
-pub returns-in-Ok-None : goal.returns-in-Ok-None
-returns-in-Ok-None c = value_none c.args.key.now c.get.ensures (c.in-Ok-None.is ∙ ap Ok c.in-Ok-None.field-0-is)
-
-pub returns-in-Err : goal.returns-in-Err
-returns-in-Err c = value_refused c.args.key.now c.get.ensures c.in-Err.is
