@@ -1,4 +1,5 @@
-// The answers of the script program, written to a lent output from a place on. Each function gives the place behind what it wrote.
+// The answers of the script program, written to a lent output from a place on. Each function gives the place behind what it wrote. (An output with
+// a place in it, since a `String` could run out of memory, and an answer can't fail.)
 #![tactic(auto)]
 
 ghost use Rattle.std.specs.Prelude.{[], ◌∷◌, ◌/◌, ◌%◌, ◌<◌, ◌≡◌};

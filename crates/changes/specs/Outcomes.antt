@@ -67,7 +67,7 @@ abbrev pub value_in : List Node → Spot → Bytes
 value_in ns t = (pair_in ns t.leaf t.slot).value
 
 pub record CanWriteOld (v : View) (t : Spot) (out : List ℕ) : Type 0 where
-  pub spot : SpotIn v.header v.dir.now t
+  pub spot : SpotIn v.header v.dir.now v.slots.now v.arena.now t
   pub fits : length (value_in (leaves_of v) t) ≤ length out
 
 pub record WroteOld (t : Spot) (out : List ℕ) (r : ℕ) (now_out : List ℕ) (ns : List Node) : Type 0 where

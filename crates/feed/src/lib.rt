@@ -1,4 +1,5 @@
-// Lines out of pieces of input: a line's bytes are gathered in a lent buffer, as many as it has room for.
+// Lines out of pieces of input: a line's bytes are gathered in a lent buffer, as many as it has room for. (Lent, and how many it holds beside it,
+// since a `Vec` could run out of memory, and no byte of a line may be lost for that.)
 #![tactic(auto)]
 
 ghost use Rattle.std.specs.Prelude.{◌≤◌, length};

@@ -103,7 +103,7 @@ pub record OffsetAsked (h : Header) (dir slots : List ℕ) (j : ℕ) : Type 0 wh
 
 -- a pair of the leaf that owns the key
 pub record KeySpot (v : View) (k : Bytes) (t : Spot) : Type 0 where
-  pub spot : SpotIn v.header v.dir.now t
+  pub spot : SpotIn v.header v.dir.now v.slots.now v.arena.now t
   pub owns : t.leaf ≡ owner k (leaves_of v)
 
 -- a pair with another behind it in its leaf

@@ -161,7 +161,7 @@ module _ {v : View} {k : Bytes} {t : Spot} {s : ℕ} (p : CommonAsked v k t s) {
 
 module _ {v : View} {k : Bytes} {t : Spot} {s : ℕ} (p : CommonAsked v k t s) where
   pub with_asked : KeySpot v k (record { leaf = t.leaf; slot = s - 1 })
-  with_asked = record { spot = record { leaf_in = p.leaf_in; slot_in = omega (arith, p.cut_left, p.cut_right) }; owns = p.owns }
+  with_asked = record { spot = record { index = v.index; leaf_in = p.leaf_in; slot_in = omega (arith, p.cut_left, p.cut_right) }; owns = p.owns }
 
   pub right_asked : t.slot + 1 < s → BesideSpot v (record { leaf = t.leaf; slot = s - 2 })
   right_asked g = record { leaf_in = p.leaf_in; next_in = omega (arith, p.cut_right, g) }

@@ -10,7 +10,7 @@ use Rattle.lines.specs.Grammar.{AllBytes, Command, Front, Number, Parsed, Says, 
 use Rattle.lines.specs.Grammar.Command.{dels, gets, makes, nexts, puts, shows}
 use Rattle.lines.specs.HexLaws.{bytes_clear, bytes_half}
 use Rattle.lines.specs.NumberLaws.{number_clear}
-use Rattle.lines.specs.Pieces.{Cut, Decoded, IsBytes, Numbered, OneKey, Spaceless}
+use Rattle.lines.specs.Pieces.{Cut, Decoded, FirstSpace, IsBytes, Numbered, OneKey, Spaceless}
 use Rattle.lines.specs.declared.Line.{Line}
 use Rattle.lines.specs.declared.Line.TheVariants.{Del, Get, Leaves, New, Next, Put}
 
@@ -25,6 +25,9 @@ pub cut_joined : {line : Bytes} {e : ℕ} → Cut line e → (e ≡ length line 
 cut_joined {line} {e} c n =
     let r : take (length line - (e + 1)) (drop (e + 1) line) ≡ drop (e + 1) line = take_all (length line - (e + 1)) (drop (e + 1) line) (omega (arith, length-drop (e + 1) line)) in
     record { clear = c.clear; join = cc (r, cut_join c (let h : e < length line = omega (arith, c.within) in h)) }
+
+pub space_joined : {line : Bytes} {e : ℕ} → FirstSpace line (Some e) → Joined (take e line) (take (length line - (e + 1)) (drop (e + 1) line)) line
+space_joined s = cut_joined s.0 (λ q. omega (arith, q, s.1))
 
 join_length : (h t : Bytes) → length (h ␣ t) ≡ length h + 1 + length t
 unfolding ◌␣◌

@@ -49,6 +49,11 @@ pub record Cut (line : Bytes) (r : ℕ) : Type 0 where
   pub clear : Spaceless (take r line)
   pub stop : r < length line → get_or line r 0 ≡ 32
 
+-- where a line's first space is, if it has one
+abbrev pub FirstSpace : Bytes → Option ℕ → Type 0
+FirstSpace line (Some e) = Cut line e × (e < length line)
+FirstSpace line None = Cut line (length line)
+
 -- a first word that is neither `new` nor `put`, and what stands behind its space
 pub record OneKey (command word : Bytes) : Type 0 where
   pub clear : Spaceless command

@@ -5,7 +5,7 @@ ghost use Rattle.std.specs.Prelude.{◌≡◌, ℕ, ◌+◌, ◌/◌, ◌≤◌,
 ghost use Rattle.lists.specs.Exact.{Exact};
 ghost use Rattle.order.specs.Bytes.{Bytes};
 ghost use Rattle.lines.specs.Grammar.{Parsed, ◌␣◌, new_word, put_word};
-ghost use Rattle.lines.specs.Pieces.{Cut, Decoded, HexValue, IsBytes, Numbered, OneKey, TenValue};
+ghost use Rattle.lines.specs.Pieces.{Decoded, FirstSpace, HexValue, IsBytes, Numbered, OneKey, TenValue};
 
 /// The three numbers of `new`.
 #[derive(Clone, Copy, Debug, PartialEq, Eq)]
@@ -97,11 +97,11 @@ fn number(word: &[u8]) -> Option<usize>
     }
 }
 
-// The place of the first space, or the length.
-fn word_end(line: &[u8]) -> usize
-    ensures { Cut line.now result }
+// The place of the first space.
+fn word_end(line: &[u8]) -> Option<usize>
+    ensures { FirstSpace line.now result }
 {
-    line.iter().position(|&b| b == b' ').unwrap_or(line.len())
+    line.iter().position(|&b| b == b' ')
 }
 
 // What the line `new` with these words behind it says.
@@ -109,15 +109,9 @@ fn parse_new(words: &[u8]) -> Option<Line>
     requires { 4 + length words.now ≤ 4096 }
     ensures { (key value : Bytes) → Parsed (new_word ␣ words.now) key key value value result }
 {
-    let e = word_end(words);
-    if e == words.len() {
-        return None;
-    }
+    let e = word_end(words)?;
     let rest = &words[e + 1..];
-    let m = word_end(rest);
-    if m == rest.len() {
-        return None;
-    }
+    let m = word_end(rest)?;
     let fanout = number(&words[..e])?;
     let pool = number(&rest[..m])?;
     let arena = number(&rest[m + 1..])?;
@@ -133,10 +127,7 @@ fn parse_put(words: &[u8], key: &mut [u8], value: &mut [u8]) -> Option<Line>
     requires { (4 + length words.now ≤ 4096) × (2048 ≤ length key.old) × (2048 ≤ length value.old) }
     ensures { Parsed (put_word ␣ words.now) key.old key.new value.old value.new result }
 {
-    let e = word_end(words);
-    if e == words.len() {
-        return None;
-    }
+    let e = word_end(words)?;
     if !is_bytes(&words[..e]) {
         return None;
     }
@@ -156,6 +147,7 @@ fn parse_key(command: &[u8], word: &[u8], key: &mut [u8]) -> Option<Line>
     if !is_bytes(word) {
         return None;
     }
+    // By `==`: a `match` on the bytes was tried, and asks for a proof at each byte where a command may differ.
     if command == b"get".as_slice() {
         return Some(Line::Get(decode(word, key)));
     }
@@ -176,14 +168,13 @@ pub fn parse(line: &[u8], key: &mut [u8], value: &mut [u8]) -> Option<Line>
     if 4096 < line.len() {
         return None;
     }
-    let e = word_end(line);
-    if e == line.len() {
+    let Some(e) = word_end(line) else {
         return if line == b"leaves".as_slice() {
             Some(Line::Leaves)
         } else {
             None
         };
-    }
+    };
     let command = &line[..e];
     let words = &line[e + 1..];
     if command == b"put".as_slice() {

@@ -60,7 +60,7 @@ module _ {h : Header} {dir slots arena : List ℕ} {ns : List Node} (x : Presume
     pub spot_leaf : t.leaf < h.leaves
     spot_leaf = (routed x k s.owns).within
 
-    pub spot_in : SpotIn h dir t
+    pub spot_in : SpotIn h dir slots arena t
     spot_in = at_spot_in x k s
 
     pub spot_slot : t.slot < word_count (get_or dir t.leaf 0)

@@ -115,7 +115,7 @@ module _ {h : Header} {dir slots arena : List ℕ} {t : Spot} (c : CanRemove h d
   abbrev x : Presumed h dir slots arena c.step.nodes
   x = c.step.presumed
 
-  pub remove_spot : SpotIn h dir t
+  pub remove_spot : SpotIn h dir slots arena t
   remove_spot = spot_in x c.step.asks
 
   pub remove_takes : Takes h.fanout dir slots t.leaf t.slot

@@ -139,7 +139,7 @@ module _ {h : Header} {dir slots arena : List ℕ} {v : Bytes} {t : Spot} (c : C
   abbrev x : Presumed h dir slots arena c.step.nodes
   x = c.step.presumed
 
-  pub replace_spot : SpotIn h dir t
+  pub replace_spot : SpotIn h dir slots arena t
   replace_spot = spot_in x c.step.asks.spot
 
   pub replace_place : t.leaf < length dir

@@ -140,12 +140,12 @@ module _ {h : Header} {dir slots arena : List ℕ} {k : Bytes} {p : Plan} {out :
   -- a stored key
 
   module _ (s : StoredFirst p) where
-    pub spot_asked : SpotIn h dir (cut_spot p)
+    pub spot_asked : SpotIn h dir slots arena (cut_spot p)
     spot_asked =
         let x = a.asked.step.presumed in
         let b = a.asked.step.asks in
         let l : p.leaf < h.leaves = omega (arith, stored_leaf_in b s, x.holds.leaves_are) in
-        record { leaf_in = l; slot_in = rw (leaf_lays x p.leaf l).count_is (stored_in b s) }
+        record { index = record { nodes = a.asked.step.nodes; presumed = x }; leaf_in = l; slot_in = rw (leaf_lays x p.leaf l).count_is (stored_in b s) }
 
     key_short : {ns : List Node} {v : Bytes} → Presumed h dir slots arena ns → SplitAsked h (length dir) (length arena) k v p ns
         → length (key_in (leaf_at ns p.leaf).pairs p.cut) ≤ length out

@@ -37,10 +37,14 @@ module _ {h : Header} {dir slots arena : List ℕ} {ns : List Node} {j : ℕ} {l
   pub sought_gap : (i : ℕ) → f ≡ Err i → InGap k ns (record { leaf = j; slot = i })
   sought_gap i g = record { owns = o; stands = gap_place (place k (leaf_at ns j).pairs) i (sym g ∙ find_routed x l k o e) }
 
-pub at_spot_in : {h : Header} {dir slots arena : List ℕ} {ns : List Node} → Presumed h dir slots arena ns → (k : Bytes) {t : Spot} → AtSpot k ns t → SpotIn h dir t
-at_spot_in x k {t} a =
+pub at_spot_in : {h : Header} {dir slots arena : List ℕ} {ns : List Node} → Presumed h dir slots arena ns → (k : Bytes) {t : Spot} → AtSpot k ns t → SpotIn h dir slots arena t
+at_spot_in {ns = ns} x k {t} a =
     let w = (routed x k a.owns).within in
-    record { leaf_in = w; slot_in = omega (arith, (at_in_list x k a.owns t.slot a.stands).slot_in, (leaf_lays x t.leaf w).count_is) }
+    record {
+      index = record { nodes = ns; presumed = x };
+      leaf_in = w;
+      slot_in = omega (arith, (at_in_list x k a.owns t.slot a.stands).slot_in, (leaf_lays x t.leaf w).count_is);
+    }
 
 -- its answer, told apart
 

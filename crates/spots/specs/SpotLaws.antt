@@ -44,7 +44,7 @@ module _ {leaves : ℕ} {dir : List ℕ} {j₀ i₀ j i : ℕ} (l : Level leaves
 
 -- the pair at a spot
 
-module _ {h : Header} {dir slots arena : List ℕ} {ns : List Node} {t : Spot} (x : Presumed h dir slots arena ns) (i : SpotIn h dir t) where
+module _ {h : Header} {dir slots arena : List ℕ} {ns : List Node} {t : Spot} (x : Presumed h dir slots arena ns) (i : SpotIn h dir slots arena t) where
   pub spot_in_list : InList ns t.leaf t.slot
   spot_in_list = record { leaf_in = place_in x i.leaf_in; slot_in = omega (arith, i.slot_in, (leaf_lays x t.leaf i.leaf_in).count_is) }
 
@@ -81,8 +81,8 @@ spot_word_is h dir t e g = rw (g, e)
 -- a spot asked of a view, and the pair read there, told of the header and the buffers that it views
 
 module _ {h : Header} {dir slots arena : List ℕ} (v : View) (u : Views v h dir slots arena) where
-  pub spot_asked : {t : Spot} → SpotIn h dir t → SpotIn v.header v.dir.now t
-  spot_asked i = rw (u.header_is, u.dir_is) i
+  pub spot_asked : {t : Spot} → SpotIn h dir slots arena t → SpotIn v.header v.dir.now v.slots.now v.arena.now t
+  spot_asked i = rw (u.header_is, u.dir_is, u.slots_are, u.arena_is) i
 
   pub spot_told : {t : Spot} {r : Pieced} → PairAt v t r → SpotRead h dir slots arena t r
   spot_told {t} {r} e = view_held (λ h dir slots arena ns. PairRead h dir slots arena ns t r) v u e

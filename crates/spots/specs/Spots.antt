@@ -2,7 +2,7 @@
 use Rattle.std.proofs.Common.{Option}
 use Rattle.std.specs.Prelude.{◌<◌, ℕ, List, [], ◌≡◌, get_or, length, Some, None}
 use Rattle.layout.specs.Pieces.{InList, Pieces, pair_in, word_at_slot}
-use Rattle.layout.specs.Presumed.{Inner}
+use Rattle.layout.specs.Presumed.{Index, Inner}
 use Rattle.layout.specs.Viewed.{leaves_of}
 use Rattle.layout.specs.declared.Header.{Header}
 use Rattle.layout.specs.declared.lent.View.{View}
@@ -32,7 +32,8 @@ pub record NextRead (leaves : ℕ) (dir : List ℕ) (s : Spot) (r : Option Spot)
   pub next : (ns : List Node) → Counted leaves dir ns → NextOf ns s r
 
 -- a spot of an index that has a pair
-pub record SpotIn (h : Header) (dir : List ℕ) (t : Spot) : Type 0 where
+pub record SpotIn (h : Header) (dir slots arena : List ℕ) (t : Spot) : Type 0 where
+  pub index : Index h dir slots arena
   pub leaf_in : t.leaf < h.leaves
   pub slot_in : t.slot < word_count (get_or dir t.leaf 0)
 

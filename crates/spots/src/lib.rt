@@ -54,7 +54,7 @@ pub fn next_spot(leaves: usize, dir: &[u32], s: Spot) -> Option<Spot>
 }
 
 pub fn read_spot(v: &View<'_>, t: Spot) -> Pieced
-    requires { SpotIn v.now.header v.now.dir.now t }
+    requires { SpotIn v.now.header v.now.dir.now v.now.slots.now v.now.arena.now t }
     ensures { PairAt v.now t result }
 {
     let d = v.dir[t.leaf];

@@ -42,7 +42,7 @@ module _ {h : Header} {dir slots arena : List ℕ} {ns : List Node} (x : Presume
   pub replaces_fits : {t : Spot} → Replaces h pool room k v out ns t → length (value_in ns t) ≤ out
   replaces_fits {t} a = ltb-false out (length (value_in ns t)) (sym (ap (short out) (replaces_found a)) ∙ (replaces_passed a).output)
 
-  pub replaces_spot : {t : Spot} → Replaces h pool room k v out ns t → SpotIn h dir t
+  pub replaces_spot : {t : Spot} → Replaces h pool room k v out ns t → SpotIn h dir slots arena t
   replaces_spot a = at_spot_in x k a.spot
 
 -- a new pair, whether or not its leaf is split

@@ -84,10 +84,10 @@ module _ {h : Header} {dir slots arena : List ℕ} {ns : List Node} (x : Presume
     pub found_at : {t : Spot} {d : Bool} → f ≡ Some t → d ≡ before_end range.end e (pair_in ns t.leaf t.slot).key → d ≡ true → Hits ns (range_found range s e ns) (Ok (Some t))
     found_at {t} q g u = record { hit = rw (found_is, rest_is q, sym g ∙ u) (record { spot = t; answer_is = refl; in_list = next_in q; pair_is = refl }) }
 
-pub spot_of : {h : Header} {dir slots arena : List ℕ} {ns : List Node} {t : Spot} → Presumed h dir slots arena ns → InList ns t.leaf t.slot → SpotIn h dir t
-spot_of {h = h} {t = t} x i =
+pub spot_of : {h : Header} {dir slots arena : List ℕ} {ns : List Node} {t : Spot} → Presumed h dir slots arena ns → InList ns t.leaf t.slot → SpotIn h dir slots arena t
+spot_of {h = h} {ns = ns} {t = t} x i =
     let l : t.leaf < h.leaves = omega (arith, i.leaf_in, x.holds.leaves_are) in
-    record { leaf_in = l; slot_in = omega (arith, i.slot_in, (leaf_lays x t.leaf l).count_is) }
+    record { index = record { nodes = ns; presumed = x }; leaf_in = l; slot_in = omega (arith, i.slot_in, (leaf_lays x t.leaf l).count_is) }
 
 -- what an answer of `found` tells of the model's
 

@@ -35,7 +35,7 @@ pub fn found(v: &View<'_>, range: Range, start: &[u8], end: &[u8]) -> Result<Opt
 
 // A pair shown: its key written in two pieces, prefix then suffix, where the output has room for it.
 pub fn show(v: &View<'_>, t: Spot, out: &mut [u8]) -> Result<Seen, Refusal>
-    requires { SpotIn v.now.header v.now.dir.now t }
+    requires { SpotIn v.now.header v.now.dir.now v.now.slots.now v.now.arena.now t }
     ensures { ShowInner v.now t out.old out.new result }
 {
     let pair = read_spot(v, t);
@@ -73,7 +73,7 @@ pub fn first_in_range(
 // The value of the pair at a spot, in the arena that the view reads. The arena is lent once more beside the view: what is handed back
 // lives as long as it, and as a part of the view only as long as the directory and the slots too.
 fn value_at<'a>(v: &View<'_>, arena: &'a [u8], t: Spot) -> &'a [u8]
-    requires there { SpotIn v.now.header v.now.dir.now t }
+    requires there { SpotIn v.now.header v.now.dir.now v.now.slots.now v.now.arena.now t }
     requires same_arena { arena.now ≡ v.now.arena.now }
     ensures { ValueInner v.now t result.now }
 {

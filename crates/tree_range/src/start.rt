@@ -50,7 +50,7 @@ pub fn start_spot(v: &View<'_>, kind: Bound, start: &[u8]) -> Spot
 
 // A bound need not begin with the leaf's prefix: the whole key is compared, piece by piece.
 fn compare_spot(v: &View<'_>, t: Spot, key: &[u8]) -> Ordering
-    requires { SpotIn v.now.header v.now.dir.now t }
+    requires { SpotIn v.now.header v.now.dir.now v.now.slots.now v.now.arena.now t }
     ensures { ComparesTo v.now t key.now result }
 {
     let pair = read_spot(v, t);
@@ -65,7 +65,7 @@ fn compare_spot(v: &View<'_>, t: Spot, key: &[u8]) -> Ordering
 
 // Whether the pair at a spot is before the end; the key beside an open end isn't read.
 pub fn before_end(v: &View<'_>, t: Spot, kind: Bound, end: &[u8]) -> bool
-    requires { SpotIn v.now.header v.now.dir.now t }
+    requires { SpotIn v.now.header v.now.dir.now v.now.slots.now v.now.arena.now t }
     ensures { EndsBefore v.now t kind end.now result }
 {
     match kind {

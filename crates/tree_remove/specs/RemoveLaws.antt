@@ -76,7 +76,7 @@ remove_none {h} {dir} {slots} {arena} k out {t} l g = λ ns x.
 -- the key has a pair
 
 -- (its value as it is read on a view)
-pub found_writes : (v : View) {t : Spot} {p : Pieced} (out : List ℕ) → SpotIn v.header v.dir.now t → PairAt v t p → p.slot.value ≤ length out → CanWriteOld v t out
+pub found_writes : (v : View) {t : Spot} {p : Pieced} (out : List ℕ) → SpotIn v.header v.dir.now v.slots.now v.arena.now t → PairAt v t p → p.slot.value ≤ length out → CanWriteOld v t out
 found_writes v out i s l = record { spot = i; fits = omega (arith, l, s.pieces.value_length) }
 
 pub found_asked : {h : Header} {dir slots arena : List ℕ} {k : Bytes} {t : Spot} → Index h dir slots arena → Inner h dir slots arena (λ ns. AtSpot k ns t) → length k ≤ key_limit → FoundAsked h dir slots arena k t
@@ -86,7 +86,7 @@ module _ {h : Header} {dir slots arena : List ℕ} {k : Bytes} {t : Spot} (c : F
   found_value : {ns : List Node} → Presumed h dir slots arena ns → lookup k (pairs_of ns) ≡ some (value_in ns t)
   found_value {ns} x = at_value x k (c.at_spot ns x).owns t.slot (c.at_spot ns x).stands
 
-  pub found_spot : SpotIn h dir t
+  pub found_spot : SpotIn h dir slots arena t
   found_spot = at_spot_in c.index.presumed k (c.at_spot c.index.nodes c.index.presumed)
 
   pub found_takes : CanRemove h dir slots arena t
