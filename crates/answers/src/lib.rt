@@ -8,6 +8,8 @@ ghost use Rattle.answers.specs.Answers.{Room, Wrote, answered, counts_text, line
 ghost use Rattle.answers.specs.Answers.Answer.{pair, refused};
 ghost use Rattle.answers.specs.Said.{Countable, leaf_said, said, upper_text};
 
+use moves::copy_into;
+
 /// An answer of the script program.
 #[derive(Clone, Copy, Debug, PartialEq, Eq)]
 pub enum Answer<'a> {
@@ -48,9 +50,8 @@ fn write_word(out: &mut [u8], at: usize, word: &[u8]) -> usize
     requires { Room out.old at word.now }
     ensures { Wrote out.old out.new at word.now result }
 {
-    let end = at + word.len();
-    out[at..end].copy_from_slice(word);
-    end
+    copy_into(out, at, word);
+    at + word.len()
 }
 
 // A hexadecimal digit in lower case.

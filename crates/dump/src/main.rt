@@ -39,7 +39,8 @@ fn write_header<W: Write>(h: Header, writer: &mut W) -> io::Result<()> {
     writeln!(writer, " pairs {} charge {}", h.pairs, h.charge)
 }
 
-// A line for each word, all its digits in base 16.
+// A line for each word: the name with the space behind it, then the word's place and all its digits in base 16. (Each piece of a format is a
+// write of its own, so the space is the name's.)
 fn write_words<T: Radix + Copy, W: Write>(
     name: &str,
     words: &[T],
@@ -47,7 +48,7 @@ fn write_words<T: Radix + Copy, W: Write>(
     writer: &mut W,
 ) -> io::Result<()> {
     for (i, word) in words.iter().enumerate() {
-        writeln!(writer, "{name} {i} {word:0digits$x}")?;
+        writeln!(writer, "{name}{i} {word:0digits$x}")?;
     }
     Ok(())
 }
@@ -94,8 +95,8 @@ fn write_dump<W: Write>(
     writer: &mut W,
 ) -> io::Result<()> {
     write_header(h, writer)?;
-    write_words("directory", dir, 8, writer)?;
-    write_words("slot", slots, 16, writer)?;
+    write_words("directory ", dir, 8, writer)?;
+    write_words("slot ", slots, 16, writer)?;
     write_arena(arena, writer)?;
     write_values(h, dir, slots, arena, writer)
 }

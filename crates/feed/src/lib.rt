@@ -5,6 +5,8 @@
 ghost use Rattle.std.specs.Prelude.{◌≤◌, length};
 ghost use Rattle.feed.specs.Feeds.{FirstNewline, Gathers, Holds};
 
+use moves::copy_into;
+
 /// What was gathered from a piece of input.
 #[derive(Clone, Copy, Debug, PartialEq, Eq)]
 pub struct Gathered {
@@ -25,9 +27,9 @@ fn hold(text: &[u8], line: &mut [u8], held: usize) -> usize
     requires { held ≤ length line.old }
     ensures { Holds line.old held text.now line.new result }
 {
-    let end = held + text.len().min(line.len() - held);
-    line[held..end].copy_from_slice(&text[..end - held]);
-    end
+    let n = text.len().min(line.len() - held);
+    copy_into(line, held, &text[..n]);
+    held + n
 }
 
 /// The piece from `from` on, up to the newline or the end. The newline is passed over.

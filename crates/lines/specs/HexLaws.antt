@@ -1,6 +1,6 @@
 -- Bytes as hexadecimal digits: a digit has one value, and a word of an even number of digits is the text of its bytes.
 -- Assumes nothing.
-use Rattle.std.specs.Prelude.{ℕ, zero, suc, ◌+◌, ◌-◌, ◌*◌, ◌/◌, ◌%◌, ◌≤◌, ◌<◌, None, Some, true, false, [], ◌∷◌, ◌≡◌, refl, is_some, eqb, get_or, length, set}
+use Rattle.std.specs.Prelude.{ℕ, zero, suc, ◌+◌, ◌-◌, ◌*◌, ◌/◌, ◌%◌, ◌≤◌, ◌<◌, None, Some, true, false, [], ◌∷◌, ◌≡◌, refl, is_some, unwrap_or, eqb, get_or, length, set}
 use Rattle.std.specs.List.{AllWithin, HoldsAt}
 use Rattle.std.proofs.Common.{Bool, MatchBool, Option, IsSome, sym, ap, ◌∙◌, arith, lt-ltb, le-ltb}
 use Rattle.lists.specs.All.{all_at}
@@ -58,6 +58,10 @@ hex_high b h k = (omega arith, omega (arith, digit_high (b - 97 + 10) (omega ari
 pub value_some : {b : ℕ} (r : Option ℕ) → HexValue b r → IsDigit b → IsSome r
 value_some (Some d) v t = refl
 value_some None v t = absurd (v t)
+
+pub value_or : {b h : ℕ} (r : Option ℕ) → h ≡ unwrap_or r 0 → HexValue b r → IsDigit b → HexValue b (Some h)
+value_or (Some d) e v t = rw e v
+value_or None e v t = absurd (v t)
 
 pub value_digit : {b : ℕ} (r : Option ℕ) → HexValue b r → is_some r ≡ true → IsDigit b
 value_digit (Some d) v e = record { digit = d; fits = v.0; text = v.1 }

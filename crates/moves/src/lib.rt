@@ -21,7 +21,9 @@ pub fn copy_into<T: Copy>(a: &mut [T], to: usize, s: &[T])
     requires { to + length s.now ≤ length a.old }
     ensures { a.new ≡ put a.old to s.now }
 {
-    a[to..to + s.len()].copy_from_slice(s);
+    for (i, &x) in s.iter().enumerate() {
+        a[to + i] = x;
+    }
 }
 
 /// k added to each of the n words from `from` on.

@@ -1,12 +1,12 @@
 -- std's order of slices is `cmp`, and the items of two slices that are equal side by side are counted by `common`.
 -- Assumes nothing.
-use Rattle.std.specs.Prelude.{◌≡◌, refl, ℕ, Bool, [], ◌∷◌, eqb}
-use Rattle.std.proofs.Common.{arith, lt-ltb, le-ltb, ne_eqb, eq-eqb}
+use Rattle.std.specs.Prelude.{◌≡◌, refl, ℕ, ◌+◌, ◌<◌, Bool, [], ◌∷◌, eqb, drop, get_or, length, take}
+use Rattle.std.proofs.Common.{◌∙◌, add-one, arith, drop-cons, lt-ltb, le-ltb, ne_eqb, eq-eqb, take-suc}
 use Rattle.std.specs.Cmp.Lexicographic.{slice_cmp}
 use Rattle.std.specs.Ordering.{nat_cmp}
 use Rattle.std.specs.List.{zip, prefix_len}
 use Rattle.order.specs.Bytes.{Bytes, cmp, common}
-use Rattle.order.specs.OrderLaws.{lower, level, upper, heads}
+use Rattle.order.specs.OrderLaws.{lower, level, upper, heads, cmp-drop}
 use Rattle.order.specs.CommonLaws.{even, apart, leveled}
 
 pub is_cmp : (a b : Bytes) → slice_cmp nat_cmp a b ≡ cmp a b
@@ -20,6 +20,32 @@ is_cmp (x ∷ a) (y ∷ b) =
       | level e ↦ rw (le-ltb x y (omega arith), le-ltb y x (omega arith), eq-eqb x y e) (is_cmp a b)
       | upper h ↦ rw (le-ltb x y (omega arith), lt-ltb y x h, ne_eqb x y (omega arith))
     ]
+
+-- two heads that differ decide
+heads_decide : (x y : ℕ) (a b : Bytes) → (x ≡ y → ⊥) → nat_cmp x y ≡ cmp (x ∷ a) (y ∷ b)
+unfolding cmp
+heads_decide x y a b n =
+    elim (heads x y) [
+      | lower h ↦ rw (lt-ltb x y h)
+      | level e ↦ absurd (n e)
+      | upper h ↦ rw (le-ltb x y (omega arith), lt-ltb y x h, ne_eqb x y (omega arith))
+    ]
+
+-- `compare`'s first bytes: the i that were looked at are equal
+pub record Agree (a b : Bytes) (i : ℕ) : Type 0 where
+  pub fronts : take i a ≡ take i b
+
+pub agree_start : (a b : Bytes) → Agree a b 0
+agree_start a b = record { fronts = refl }
+
+module _ {a b : Bytes} {i : ℕ} (g : Agree a b i) (h : i < length a) (k : i < length b) where
+  pub agree_more : get_or a i 0 ≡ get_or b i 0 → Agree a b (i + 1)
+  agree_more e = record { fronts = rw add-one (cc (take-suc a i 0 h, take-suc b i 0 k, g.fronts)) }
+
+  pub agree_apart : (get_or a i 0 ≡ get_or b i 0 → ⊥) → nat_cmp (get_or a i 0) (get_or b i 0) ≡ cmp a b
+  agree_apart n =
+      let e : nat_cmp (get_or a i 0) (get_or b i 0) ≡ cmp (drop i a) (drop i b) = rw (drop-cons a i 0 h, drop-cons b i 0 k) (heads_decide _ _ _ _ n) in
+      e ∙ cmp-drop i a b g.fronts
 
 abbrev pub same : ℕ × ℕ → Bool
 same p = eqb p.0 p.1

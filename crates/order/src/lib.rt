@@ -8,10 +8,26 @@ ghost use Rattle.order.specs.Compared.{Compared};
 
 use std::cmp::Ordering;
 
-pub fn compare(a: &[u8], b: &[u8]) -> Ordering
+const FEW: usize = 4;
+
+// Out of line, so that `compare` is small enough to stand in its callers' loops.
+#[inline(never)]
+fn compare_whole(a: &[u8], b: &[u8]) -> Ordering
     ensures { Compared a.now b.now result }
 {
     a.cmp(b)
+}
+
+pub fn compare(a: &[u8], b: &[u8]) -> Ordering
+    ensures { Compared a.now b.now result }
+{
+    // Most strings that are compared here differ in their first bytes, and then a call would be most of the cost.
+    for i in 0..a.len().min(b.len()).min(FEW) {
+        if a[i] != b[i] {
+            return a[i].cmp(&b[i]);
+        }
+    }
+    compare_whole(a, b)
 }
 
 pub fn common(a: &[u8], b: &[u8]) -> usize

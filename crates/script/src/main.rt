@@ -80,11 +80,18 @@ fn begin(c: Carried, next: usize) -> Fed
     }
 }
 
-// Hands the output's first bytes, a text of the program, to the writer: of what comes of that no contract says anything.
-fn write_text<W: Write>(b: &Buffers<'_>, end: usize, writer: &mut W) -> io::Result<()>
+// Hands a text of the program to the writer: of what comes of that no contract says anything.
+fn write_text<W: Write>(text: &[u8], writer: &mut W) -> io::Result<()>
+    requires { Due text.now }
+{
+    writer.write_all(text)
+}
+
+// The output's first bytes, which are such a text.
+fn write_front<W: Write>(b: &Buffers<'_>, end: usize, writer: &mut W) -> io::Result<()>
     requires { (end ≤ length b.now.out.now) × Due (take end b.now.out.now) }
 {
-    writer.write_all(&b.out[..end])
+    write_text(&b.out[..end], writer)
 }
 
 // Writes the answers out. Where that fails, there is no more input.
@@ -92,7 +99,7 @@ fn write_out<W: Write>(f: Fed, b: &Buffers<'_>, writer: &mut W) -> Carried
     requires { Filled f b.now.out.now }
     ensures { Kept f result }
 {
-    let input = match write_text(b, f.at, writer) {
+    let input = match write_front(b, f.at, writer) {
         Ok(()) => Input::More,
         Err(_) => Input::Failed,
     };
@@ -194,7 +201,7 @@ fn answer_last<W: Write>(c: Carried, b: &mut Buffers<'_>, line: &[u8], writer: &
         0,
     );
     // Nothing comes after it, so nothing depends on whether it was written.
-    let _ = write_text(b, r.at, writer);
+    let _ = write_front(b, r.at, writer);
 }
 
 // Reads and answers until no more comes. A proved loop has to end, and nothing says that the input does: so the turns are counted up to a number
@@ -215,16 +222,15 @@ fn answer_reads<R: Read, W: Write>(
         held: 0,
         input: Input::More,
     };
-    for turns in 0..usize::MAX {
+    let mut turns = 0;
+    for turn in 0..usize::MAX {
         if !c.input.is_more() {
             return Reads { carried: c, turns };
         }
         c = answer_some(c, b, input, line, reader, writer);
+        turns = turn + 1;
     }
-    Reads {
-        carried: c,
-        turns: usize::MAX,
-    }
+    Reads { carried: c, turns }
 }
 
 // All of the input, then the last line.

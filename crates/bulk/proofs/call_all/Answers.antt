@@ -1,7 +1,6 @@
 use mathlib.Core.Path.{refl}
 use native.Mathlib.Omega.{arith}
 use Rattle.bulk.specs.BulkLaws.{along_done, along_start, along_turn, count_fits}
-use Rattle.bulk.specs.JobLaws.{key_below}
 use Rattle.bulk.specs.RowLaws.{calls_stand}
 use Rattle.bulk.proofs.call_all.Goals as goal
 
@@ -9,7 +8,7 @@ pub loop-i-init : goal.loop-i-init
 loop-i-init c = along_start
 
 pub call_one-c-requires : goal.call_one-c-requires
-call_one-c-requires c = (calls_stand c.args.order c.args.n c.args.kind c.requires.0 c.loop-i.invariant.calls, omega (arith, c.key_at-key.ensures, key_below c.args.order c.loop-i.i c.args.n c.loop-i-test.true), omega arith)
+call_one-c-requires c = calls_stand c.args.order c.args.n c.args.kind c.requires.0 c.loop-i.invariant.calls
 
 pub count-t-requires : goal.count-t-requires
 count-t-requires c = count_fits c.loop-i-test.true c.requires.1 c.loop-i.invariant.calls

@@ -2,7 +2,7 @@
 -- Assumes nothing.
 use lib.ListN.{length-set}
 use Rattle.lists.proofs.FillLaws.{fill_start}
-use Rattle.lines.specs.HexLaws.{decode_turn, decode_done, digit_read, value_some}
+use Rattle.lines.specs.HexLaws.{decode_turn, decode_done, digit_read, value_or}
 use mathlib.Core.Path.{refl}
 use borrow.Author.Rules.{rules}
 use native.Mathlib.Omega.{arith}
@@ -11,16 +11,10 @@ use Rattle.lines.proofs.decode.Goals as goal
 pub loop-i-init : goal.loop-i-init
 loop-i-init c = (search rules, λ s a t. fill_start _ _ _ _ refl)
 
-pub unwrap-high-requires : goal.unwrap-high-requires
-unwrap-high-requires c = value_some _ c.hex_value.ensures (digit_read _ c.requires.0 (omega arith))
-
-pub unwrap-low-requires : goal.unwrap-low-requires
-unwrap-low-requires c = value_some _ c.hex_value-in-loop-i.ensures (digit_read _ c.requires.0 (omega arith))
-
 pub loop-i-preserved : goal.loop-i-preserved
 loop-i-preserved c =
-    let high = rw c.unwrap-high.ensures at c.hex_value.ensures in
-    let low = rw c.unwrap-low.ensures at c.hex_value-in-loop-i.ensures in
+    let high = value_or _ c.unwrap_or-high.ensures c.hex_value.ensures (digit_read _ c.requires.0 (omega arith)) in
+    let low = value_or _ c.unwrap_or-low.ensures c.hex_value-in-loop-i.ensures (digit_read _ c.requires.0 (omega arith)) in
     (simp length-set c.loop-i.invariant.0, decode_turn _ _ _ _ _ _ _ c.requires.1 (omega arith) refl c.requires.0 high low c.loop-i.invariant.1)
 
 pub returns : goal.returns
