@@ -1,10 +1,10 @@
 -- The steps of the functions that read the directory, over plain lists and numbers.
 -- Assumes nothing.
-use Rattle.std.proofs.Common.{Option}
+use Rattle.std.proofs.Common.{Option, false, true}
 use Prim.Native.Nat.{◌+◌, ◌-◌, ◌<◌, ◌^◌, ◌≤◌, suc, ℕ}
 use mathlib.Core.List.{List, [], ◌∷◌}
 use mathlib.Core.Option.{some}
-use mathlib.Core.Path.{◌∙◌, ◌≡◌, refl}
+use mathlib.Core.Path.{◌∙◌, ◌≡◌}
 use native.Mathlib.Decide.{dec_lt}
 use native.Mathlib.Omega.{arith}
 use lib.ListN.{drop, get_or, length, take}
@@ -20,7 +20,6 @@ use Rattle.order.specs.Compared.{Compared, compared_equal, compared_greater, com
 use Rattle.order.specs.OrderLaws.{below_asym, nil_upto, upto_of_eq}
 use Rattle.std.specs.declared.cmp.Ordering.{Ordering}
 use Rattle.std.specs.declared.cmp.Ordering.TheVariants.{Equal, Greater, Less}
-use Rattle.std.specs.Ordering.{is_le}
 use Rattle.route.specs.RouteLaws.{low_from, low_key_at, low_key_is, low_none, place_in, upper_is}
 use Rattle.route.specs.Routes.{LeafIs, UpperRead, leaf_at, low_place, upper_of}
 use Rattle.words.specs.Words.{LowKeyUnpacked, word_count, word_leaf}
@@ -53,15 +52,15 @@ module _ {h : Header} {dir slots arena : List ℕ} {ns : List Node} (p : Presume
       let e : k.offset.0 + k.length - k.offset.0 ≡ k.length = omega arith in
       rw e (low_key_is p j l u)
 
-  -- Less and Equal reach, Greater does not
-  pub reaches_met : {key : Bytes} (r : Ordering) → Compared (take (k.offset.0 + k.length - k.offset.0) (drop k.offset.0 arena)) key r
-      → Exact (is_le r) ((leaf_at ns j).low ≼ key)
-  reaches_met {key} r c = told r (rw low_part at c)
-    where
-      told : (r : Ordering) → Compared (leaf_at ns j).low key r → Exact (is_le r) ((leaf_at ns j).low ≼ key)
-      told Less c = exact_yes (below_asym (compared_less c refl))
-      told Equal c = exact_yes (upto_of_eq (compared_equal c refl))
-      told Greater c = exact_no (λ n. n (compared_greater c refl))
+  module _ {key : Bytes} {r : Ordering} (c : Compared (take (k.offset.0 + k.length - k.offset.0) (drop k.offset.0 arena)) key r) where
+    pub reaches_less : r ≡ Less → Exact true ((leaf_at ns j).low ≼ key)
+    reaches_less e = exact_yes (below_asym (compared_less (rw low_part at c) e))
+
+    pub reaches_equal : r ≡ Equal → Exact true ((leaf_at ns j).low ≼ key)
+    reaches_equal e = exact_yes (upto_of_eq (compared_equal (rw low_part at c) e))
+
+    pub reaches_greater : r ≡ Greater → Exact false ((leaf_at ns j).low ≼ key)
+    reaches_greater e = exact_no (λ n. n (compared_greater (rw low_part at c) e))
 
 -- owner: the low key of leaf `low` is not above the key; that of leaf `high`, where there is one, is above it
 

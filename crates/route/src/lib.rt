@@ -13,6 +13,7 @@ use layout::Header;
 use layout::lent::View;
 use leaf::{Leaf, prefix_length};
 use order::compare;
+use std::cmp::Ordering;
 use words::{LowKey, leaf_number, low_key_slot, pair_count};
 
 // A leaf's low key, by its directory word.
@@ -58,7 +59,12 @@ fn reaches(v: &View<'_>, j: usize, key: &[u8]) -> bool
 {
     let low = low_key(v.header.fanout, v.slots, v.dir[j]);
     let start = low.offset.0;
-    compare(&v.arena[start..start + low.length], key).is_le()
+    // By a match and not by `is_le`, so that each of the three answers is a goal of its own.
+    match compare(&v.arena[start..start + low.length], key) {
+        Ordering::Less => true,
+        Ordering::Equal => true,
+        Ordering::Greater => false,
+    }
 }
 
 // L1: which leaf owns the key, a place in the directory: the last leaf whose low key is not above it, by halving.

@@ -1,6 +1,6 @@
 -- The steps of `create` and `clear`, over plain lists and numbers.
 -- Assumes nothing.
-use Rattle.std.specs.Prelude.{Ok}
+use Rattle.std.specs.Prelude.{Err, Ok}
 use Prim.Native.Nat.{◌<◌, ℕ}
 use mathlib.Core.List.{List, [], ◌∷◌}
 use mathlib.Core.Path.{◌∙◌, ◌≡◌, ap, refl, sym}
@@ -14,9 +14,12 @@ use Rattle.layout.proofs.LaysWords.{region_in}
 use Rattle.layout.specs.declared.Header.{Header}
 use Rattle.lists.proofs.PartLaws.{get_or-put_in, put_one, length-put}
 use Rattle.lists.specs.Part.{put}
+use Rattle.model.specs.Answers.{meets_sizes}
+use Rattle.model.specs.LeafViews.{fails, holds, truth}
 use Rattle.model.specs.LimitLaws.{meets_sizes_lem, fanout_three, pool_one}
 use Rattle.model.specs.Limits.{Sizes}
 use Rattle.model.specs.Rules.{fresh}
+use Rattle.model.specs.declared.Refusal.TheVariants.{Shape}
 use Rattle.tree_create.specs.Outcomes.{ClearOutcome, CreateOutcome, Freshened, MadeFresh}
 use Rattle.words.specs.Words.{directory_word, low_key_slot, low_key_word}
 
@@ -68,6 +71,15 @@ freshened arena s m = record {
 -- create
 
 module _ (fanout : ℕ) (dir slots arena : List ℕ) where
+  -- each number of the header has its own equation, so that code which hands back another number fails at that number
+  pub create_refused : (Sizes fanout (length dir) (length slots) (length arena) → ⊥) → (given leaves pairs charge : ℕ) → given ≡ 0 → leaves ≡ 0 → pairs ≡ 0 → charge ≡ 0
+      → CreateOutcome fanout dir slots arena dir slots (record { header = header given leaves pairs charge; answer = Err Shape })
+  create_refused n given leaves pairs charge f l p g =
+      elim (truth (meets_sizes fanout (length dir) (length slots) (length arena))) [
+        | holds e ↦ absurd (n ((meets_sizes_lem fanout (length dir) (length slots) (length arena)).sound e))
+        | fails e ↦ rw (e, f, l, p, g) (record { answer_is = refl; code_is = refl; header_is = refl; dir_is = refl; slots_are = refl })
+      ]
+
   pub create_done : {now_dir now_slots : List ℕ} {h : Header} → Sizes fanout (length dir) (length slots) (length arena)
       → MadeFresh fanout dir slots now_dir now_slots h → CreateOutcome fanout dir slots arena now_dir now_slots (record { header = h; answer = Ok tt })
   create_done s m = rw ((meets_sizes_lem fanout (length dir) (length slots) (length arena)).complete s) (freshened arena s m)
