@@ -21,8 +21,11 @@ fn compare_whole(a: &[u8], b: &[u8]) -> Ordering
 pub fn compare(a: &[u8], b: &[u8]) -> Ordering
     ensures { Compared a.now b.now result }
 {
-    // Most strings that are compared here differ in their first bytes, and then a call would be most of the cost.
-    for i in 0..a.len().min(b.len()).min(FEW) {
+    // Most strings that are compared here differ in their first bytes or end there, and then a call would be most of the cost.
+    for i in 0..FEW {
+        if i == a.len() || i == b.len() {
+            return a.len().cmp(&b.len());
+        }
         if a[i] != b[i] {
             return a[i].cmp(&b[i]);
         }
